@@ -15,16 +15,15 @@ use Rattle.sf_machine.specs.Absent.{IsAtAbsent, root_in, root_of}
 use Rattle.sf_machine.specs.Accessing.{thing_of}
 use Rattle.sf_machine.specs.Paths.{paths_of}
 use Rattle.sf_replay.specs.Checked.Going.{IsBadAt}
-use Rattle.sf_replay.specs.Checked.Looks.{AreLooks, IsLook, absent_in, absent_or, found_in, found_or, meeting, partner_in, partner_or, race_in, race_or}
-use Rattle.sf_replay.specs.declared.look.Look.{Look}
+use Rattle.sf_replay.specs.Checked.Looks.{AreLooks, IsLook, Seen, absent_in, absent_or, found_in, found_or, meeting, partner_in, partner_or, race_in, race_or}
 use Rattle.sf_replay.specs.FirstBad.{Conflicts, PairBefore}
 use Rattle.sf_replay.specs.Order.{path_before, thing_before}
 use Rattle.sf_replay.proofs.Meetings.{IsLeast, meets-found}
 use Rattle.sf_replay.proofs.PathOrder.{IsBeforeAll, IsIn, Rises, before-either, before-in, before-once, before-self, paths-all, paths-rise}
 
 -- what is known of all tasks, once none is left
-pub looks-end : (c : Config) (ps left : List Path) (ls : List Look) → length left ≡ 0
-    → ((more : List Look) → AreLooks c left more → AreLooks c ps (ls ++ more)) → AreLooks c ps ls
+pub looks-end : (c : Config) (ps left : List Path) (ls : List Seen) → length left ≡ 0
+    → ((more : List Seen) → AreLooks c left more → AreLooks c ps (ls ++ more)) → AreLooks c ps ls
 looks-end c ps [] ls e f = subst (AreLooks c ps) (append-nil ls) (f [] tt)
 looks-end c ps (p ∷ left) ls e f = absurd (omega (arith, e))
 
@@ -50,7 +49,7 @@ root-of s (joins frames one two) h = absurd h
 root-of s nothing h = absurd h
 
 -- what touches an absent cell does so at some value
-touches-at : (c : Config) → (t : TouchesAbsent c) → (v : Value) × IsAtAbsent c t.path v
+pub touches-at : (c : Config) → (t : TouchesAbsent c) → (v : Value) × IsAtAbsent c t.path v
 touches-at c t =
     let k = root-of c.common (next t.task) t.absent in
     (k.0, record { task = t.task; enabled = t.enabled; absent = t.absent; is = k.1 })
@@ -118,7 +117,7 @@ abbrev FirstAbsent : Config → List Path → Path × Value → Type 0
 FirstAbsent c ps a = IsAtAbsent c a.0 a.1 × IsIn ps a.0
     × ((q : Path) (v : Value) → IsIn ps q → IsAtAbsent c q v → path_before q a.0 ≡ true → ⊥)
 
-absent-head : (c : Config) (p : Path) (ps : List Path) (l : Look) (o : Option Value) (found : Option (Path × Value))
+absent-head : (c : Config) (p : Path) (ps : List Path) (l : Seen) (o : Option Value) (found : Option (Path × Value))
     → l.path ≡ p → MatchOption o ((v : Value) → IsAtAbsent c p v → ⊥) (IsAtAbsent c p) → IsBeforeAll p ps
     → MatchOption found (NoneAbsent c ps) (FirstAbsent c ps)
     → MatchOption (absent_or l.path o found) (NoneAbsent c (p ∷ ps)) (FirstAbsent c (p ∷ ps))
@@ -144,7 +143,7 @@ absent-head c p ps l (Some v) found e a b m = (
   ],
 )
 
-absent-all : (c : Config) (ps : List Path) (ls : List Look) → AreLooks c ps ls → Rises ps
+absent-all : (c : Config) (ps : List Path) (ls : List Seen) → AreLooks c ps ls → Rises ps
     → MatchOption (absent_in ls) (NoneAbsent c ps) (FirstAbsent c ps)
 absent-all c [] [] a r = λ q v i k. i
 absent-all c [] (l ∷ ls) a r = absurd a
@@ -164,7 +163,7 @@ FirstPartner c p qs a = IsIn qs a.0 × Conflicts c p a.0 (thing_of a.1)
     × ((t : Thing) → Conflicts c p a.0 t → thing_before t (thing_of a.1) ≡ true → ⊥)
     × ((q : Path) (t : Thing) → IsIn qs q → Conflicts c p q t → path_before q a.0 ≡ true → ⊥)
 
-partner-head : (c : Config) (p q : Path) (qs : List Path) (m : Look) (o : Option CodeThing)
+partner-head : (c : Config) (p q : Path) (qs : List Path) (m : Seen) (o : Option CodeThing)
     (found : Option (Path × CodeThing)) → m.path ≡ q → IsLeast o (Conflicts c p q) → IsBeforeAll q qs
     → MatchOption found (NoPartner c p qs) (FirstPartner c p qs)
     → MatchOption (partner_or m.path o found) (NoPartner c p (q ∷ qs)) (FirstPartner c p (q ∷ qs))
@@ -192,7 +191,7 @@ partner-head c p q qs m (Some x) found e a b k = (
   ],
 )
 
-partner-all : (c : Config) (p : Path) (l : Look) (qs : List Path) (ms : List Look) → IsLook c p l → AreLooks c qs ms
+partner-all : (c : Config) (p : Path) (l : Seen) (qs : List Path) (ms : List Seen) → IsLook c p l → AreLooks c qs ms
     → Rises qs → MatchOption (partner_in l ms) (NoPartner c p qs) (FirstPartner c p qs)
 partner-all c p l [] [] k a r = λ q t i j. i
 partner-all c p l [] (m ∷ ms) k a r = absurd a
@@ -220,7 +219,7 @@ later-in p q x ps b (inr i) (inl f) h =
     absurd (before-once x p (before-in x p ps b i) (subst (λ (z : Path). path_before p z ≡ true) f h))
 later-in p q x ps b i (inr j) h = j
 
-race-head : (c : Config) (p : Path) (ps : List Path) (l : Look) (o : Option (Path × CodeThing))
+race-head : (c : Config) (p : Path) (ps : List Path) (l : Seen) (o : Option (Path × CodeThing))
     (found : Option (Path × Path × CodeThing)) → l.path ≡ p → IsBeforeAll p ps
     → MatchOption o (NoPartner c p ps) (FirstPartner c p ps) → MatchOption found (NoRace c ps) (FirstRace c ps)
     → MatchOption (race_or l.path o found) (NoRace c (p ∷ ps)) (FirstRace c (p ∷ ps))
@@ -254,7 +253,7 @@ race-head c p ps l (Some a) found e b k m = (
   ],
 )
 
-race-all : (c : Config) (ps : List Path) (ls : List Look) → AreLooks c ps ls → Rises ps
+race-all : (c : Config) (ps : List Path) (ls : List Seen) → AreLooks c ps ls → Rises ps
     → MatchOption (race_in ls) (NoRace c ps) (FirstRace c ps)
 race-all c [] [] a r = λ p q t i j h k. i
 race-all c [] (l ∷ ls) a r = absurd a
@@ -304,7 +303,7 @@ bad-found c number None (Some r) m n = (
 bad-found c number None None m n = none-bad c m n
 
 -- what is found in what is known of all tasks is what is bad, and the first of it
-pub bad-first : (c : Config) (number : ℕ) (looks : List Look) → AreLooks c (paths_of c.tasks) looks
+pub bad-first : (c : Config) (number : ℕ) (looks : List Seen) → AreLooks c (paths_of c.tasks) looks
     → MatchOption (found_in number looks) (Bad c → ⊥) (IsBadAt number c)
 bad-first c number looks a = bad-found c number (absent_in looks) (race_in looks)
     (absent-all c (paths_of c.tasks) looks a (paths-rise c.tasks)) (race-all c (paths_of c.tasks) looks a (paths-rise c.tasks))

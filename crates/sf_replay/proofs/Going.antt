@@ -167,7 +167,7 @@ refused-bad ev c v r = elim r.cause [
 ]
 
 -- why an event is none, where nothing is bad
-stuck-cause : (p : Program) (ev : Event) (c : Config) (why : Stepped) → (Bad c → ⊥) → (why ≡ s.Moved → ⊥)
+pub stuck-cause : (p : Program) (ev : Event) (c : Config) (why : Stepped) → (Bad c → ⊥) → (why ≡ s.Moved → ⊥)
     → Answers p ev c why → IsCause why
 stuck-cause p ev c s.Moved f m a = absurd (m refl)
 stuck-cause p ev c (s.Absent v) f m a = f (refused-bad ev c v a)

@@ -1,5 +1,7 @@
+pub mod Answered
 pub mod Firsts
 pub mod Going
+pub mod Listings
 pub mod Meetings
 pub mod Once
 pub mod PathOrder

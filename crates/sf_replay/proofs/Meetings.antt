@@ -11,28 +11,27 @@ use Rattle.sf_core.specs.Machine.Enabled.{Thing, HasEnded, IsBlocked, IsEnabled,
 use Rattle.sf_core.specs.Machine.Next.{Next, does, leaves, returns, joins, nothing, next}
 use Rattle.sf_core.specs.Program.Syntax.{Command, assign, look_up, mutate, new, dispose, if, while, call, fork, with}
 use Rattle.sf_machine.specs.Accessing.{IsListed, thing_of}
-use Rattle.sf_replay.specs.Checked.Looks.{IsLook, is_among, least_in, lesser, meeting, same_thing}
-use Rattle.sf_replay.specs.declared.look.Look.{Look}
+use Rattle.sf_replay.specs.Checked.Looks.{IsLook, Seen, is_among, least_in, lesser, meeting, same_thing}
 use Rattle.sf_replay.specs.FirstBad.{Conflicts}
 use Rattle.sf_replay.specs.Order.{thing_before}
 use Rattle.sf_replay.proofs.ThingOrder.{same-false, same-true, thing-self, thing-through}
 
 -- it is so, or it isn't
-abbrev Decided : Type 0 → Type 0
+abbrev pub Decided : Type 0 → Type 0
 Decided P = P ⊎ (P → ⊥)
 
 done-or_not : (todo : List Item) → Decided (todo ≡ [])
 done-or_not [] = inl refl
 done-or_not (i ∷ todo) = inr (λ e. absurd (cc))
 
-ended-or_not : (path : Path) (t : Task) → Decided (HasEnded path t)
+pub ended-or_not : (path : Path) (t : Task) → Decided (HasEnded path t)
 ended-or_not path (runs []) = inl tt
 ended-or_not [] (runs (f ∷ [])) = done-or_not f.todo
 ended-or_not [] (runs (f ∷ g ∷ below)) = inr (λ h. h)
 ended-or_not (turn ∷ path) (runs (f ∷ below)) = inr (λ h. h)
 ended-or_not path (waits frames one two) = inr (λ h. h)
 
-over-or_not : (t : Task) → Decided (IsOver t)
+pub over-or_not : (t : Task) → Decided (IsOver t)
 over-or_not (runs []) = inl tt
 over-or_not (runs (f ∷ below)) = inr (λ h. h)
 over-or_not (waits frames one two) = inr (λ h. h)
@@ -53,7 +52,7 @@ shut-or_not held (call place c) = inr (λ h. h)
 shut-or_not held (fork place c d) = inr (λ h. h)
 shut-or_not held (with place r test body) = held-or_not (held r)
 
-both-or_not : {P Q : Type 0} → Decided P → Decided Q → Decided (P × Q)
+pub both-or_not : {P Q : Type 0} → Decided P → Decided Q → Decided (P × Q)
 both-or_not (inl p) (inl q) = inl (p, q)
 both-or_not (inl p) (inr n) = inr (λ h. n h.1)
 both-or_not (inr n) q = inr (λ h. n h.0)
@@ -62,7 +61,7 @@ not-or_not : {P : Type 0} → Decided P → Decided (P → ⊥)
 not-or_not (inl p) = inr (λ n. n p)
 not-or_not (inr n) = inl n
 
-blocked-or_not : (held : ResId → Option Path) (n : Next) → Decided (IsBlocked held n)
+pub blocked-or_not : (held : ResId → Option Path) (n : Next) → Decided (IsBlocked held n)
 blocked-or_not held (does f below c rest) = shut-or_not held c
 blocked-or_not held (leaves f below r rest) = inr (λ h. h)
 blocked-or_not held (returns f below) = inr (λ h. h)
@@ -202,38 +201,38 @@ least-in least (x ∷ xs) among P l = least-step least x xs among P (is_among am
     (λ m Q h. least-in m xs among Q h)
 
 -- the one writes what the other reads or writes, or the other way round, by what is listed
-abbrev pub Meets : Look → Look → Thing → Type 0
-Meets l m t = ((⊥ ⊎ (IsListed l.accesses.writes.items t × IsListed m.accesses.reads.items t))
-    ⊎ (IsListed l.accesses.writes.items t × IsListed m.accesses.writes.items t))
-    ⊎ (IsListed l.accesses.reads.items t × IsListed m.accesses.writes.items t)
+abbrev pub Meets : Seen → Seen → Thing → Type 0
+Meets l m t = ((⊥ ⊎ (IsListed l.writes t × IsListed m.reads t))
+    ⊎ (IsListed l.writes t × IsListed m.writes t))
+    ⊎ (IsListed l.reads t × IsListed m.writes t)
 
-meets-least : (l m : Look) → IsLeast (meeting l m) (Meets l m)
+meets-least : (l m : Seen) → IsLeast (meeting l m) (Meets l m)
 meets-least l m =
-    let w = l.accesses.writes.items in
-    let r = l.accesses.reads.items in
-    let one = least-in None w m.accesses.reads.items (λ t. ⊥) (λ t h. h) in
-    let two = least-in (least_in None w m.accesses.reads.items) w m.accesses.writes.items
-    (λ t. ⊥ ⊎ (IsListed w t × IsListed m.accesses.reads.items t)) one in
-    least-in (least_in (least_in None w m.accesses.reads.items) w m.accesses.writes.items) r m.accesses.writes.items
-    (λ t. (⊥ ⊎ (IsListed w t × IsListed m.accesses.reads.items t)) ⊎ (IsListed w t × IsListed m.accesses.writes.items t))
+    let w = l.writes in
+    let r = l.reads in
+    let one = least-in None w m.reads (λ t. ⊥) (λ t h. h) in
+    let two = least-in (least_in None w m.reads) w m.writes
+    (λ t. ⊥ ⊎ (IsListed w t × IsListed m.reads t)) one in
+    least-in (least_in (least_in None w m.reads) w m.writes) r m.writes
+    (λ t. (⊥ ⊎ (IsListed w t × IsListed m.reads t)) ⊎ (IsListed w t × IsListed m.writes t))
     two
 
 -- a task whose step reads or writes something is enabled
-listed-enabled : (c : Config) (p : Path) (l : Look) (t : Thing) → IsLook c p l
-    → IsListed l.accesses.reads.items t ⊎ IsListed l.accesses.writes.items t → (task : Task) × IsEnabled c p task
+listed-enabled : (c : Config) (p : Path) (l : Seen) (t : Thing) → IsLook c p l
+    → IsListed l.reads t ⊎ IsListed l.writes t → (task : Task) × IsEnabled c p task
 listed-enabled c p l t k i = elim (enabled-or_not c p) [
   | inl task ↦ task
   | inr lacks ↦ absurd (none (k.accesses.neither (λ task e. lacks (task, e))) i)
 ]
   where
-    none : (l.accesses.reads.items ≡ []) × (l.accesses.writes.items ≡ [])
-        → IsListed l.accesses.reads.items t ⊎ IsListed l.accesses.writes.items t → ⊥
+    none : (l.reads ≡ []) × (l.writes ≡ [])
+        → IsListed l.reads t ⊎ IsListed l.writes t → ⊥
     none e i = elim i [
       | inl h ↦ subst (λ (z : List CodeThing). IsListed z t) e.0 h
       | inr h ↦ subst (λ (z : List CodeThing). IsListed z t) e.1 h
     ]
 
-meets-to : (c : Config) (p q : Path) (l m : Look) (t : Thing) → IsLook c p l → IsLook c q m → Meets l m t
+meets-to : (c : Config) (p q : Path) (l m : Seen) (t : Thing) → IsLook c p l → IsLook c q m → Meets l m t
     → Conflicts c p q t
 meets-to c p q l m t a b h = elim h [
   | inl k ↦ elim k [
@@ -243,7 +242,7 @@ meets-to c p q l m t a b h = elim h [
   | inr i ↦ reads_writes i.0 i.1
 ]
   where
-    writes_reads : IsListed l.accesses.writes.items t → IsListed m.accesses.reads.items t → Conflicts c p q t
+    writes_reads : IsListed l.writes t → IsListed m.reads t → Conflicts c p q t
     writes_reads i j =
         let x = listed-enabled c p l t a (inr i) in
         let y = listed-enabled c q m t b (inl j) in
@@ -255,7 +254,7 @@ meets-to c p q l m t a b h = elim h [
           conflict = inl ((a.accesses.written x.0 x.1 t).0 i, inl ((b.accesses.read y.0 y.1 t).0 j));
         }
 
-    writes_writes : IsListed l.accesses.writes.items t → IsListed m.accesses.writes.items t → Conflicts c p q t
+    writes_writes : IsListed l.writes t → IsListed m.writes t → Conflicts c p q t
     writes_writes i j =
         let x = listed-enabled c p l t a (inr i) in
         let y = listed-enabled c q m t b (inr j) in
@@ -267,7 +266,7 @@ meets-to c p q l m t a b h = elim h [
           conflict = inl ((a.accesses.written x.0 x.1 t).0 i, inr ((b.accesses.written y.0 y.1 t).0 j));
         }
 
-    reads_writes : IsListed l.accesses.reads.items t → IsListed m.accesses.writes.items t → Conflicts c p q t
+    reads_writes : IsListed l.reads t → IsListed m.writes t → Conflicts c p q t
     reads_writes i j =
         let x = listed-enabled c p l t a (inl i) in
         let y = listed-enabled c q m t b (inr j) in
@@ -279,7 +278,7 @@ meets-to c p q l m t a b h = elim h [
           conflict = inr ((b.accesses.written y.0 y.1 t).0 j, inl ((a.accesses.read x.0 x.1 t).0 i));
         }
 
-meets-from : (c : Config) (p q : Path) (l m : Look) (t : Thing) → IsLook c p l → IsLook c q m → Conflicts c p q t
+meets-from : (c : Config) (p q : Path) (l m : Seen) (t : Thing) → IsLook c p l → IsLook c q m → Conflicts c p q t
     → Meets l m t
 meets-from c p q l m t a b k =
     let w = a.accesses.written k.task k.enabled t in
@@ -298,7 +297,7 @@ meets-from c p q l m t a b k =
     ]
 
 -- the first thing on which two steps conflict is found, where they do
-pub meets-found : (c : Config) (p q : Path) (l m : Look) → IsLook c p l → IsLook c q m
+pub meets-found : (c : Config) (p q : Path) (l m : Seen) → IsLook c p l → IsLook c q m
     → IsLeast (meeting l m) (Conflicts c p q)
 meets-found c p q l m a b = least-same (meeting l m) (Meets l m) (Conflicts c p q)
     (λ t h. meets-to c p q l m t a b h) (λ t h. meets-from c p q l m t a b h) (meets-least l m)

@@ -41,7 +41,7 @@ unfolding StepsAreDeterministic
 step-once p e c d x a b = steps_are_deterministic p e c d x a b
 
 -- a safe run is a run
-leads-reach : (p : Program) (s c : Config) (es : List Event) → LeadsSafely p s es c → Reach p s es c
+pub leads-reach : (p : Program) (s c : Config) (es : List Event) → LeadsSafely p s es c → Reach p s es c
 leads-reach p s c [] l = l
 leads-reach p s c (e ∷ es) l = (l.1.0, l.1.1, leads-reach p l.1.0 c es l.1.2)
 
@@ -131,10 +131,10 @@ same-end p s es k j W V w v l m = elim (cases_lt k j) [
 
 -- ---- what ends a run
 
-absent-bad : (c : Config) (path : Path) (v : Value) → IsFirstAbsent c path v → Bad c
+pub absent-bad : (c : Config) (path : Path) (v : Value) → IsFirstAbsent c path v → Bad c
 absent-bad c path v a = inl (absent-touches c path v a.absent)
 
-race-bad : (c : Config) (path other : Path) (t : Thing) → IsFirstRace c path other t → Bad c
+pub race-bad : (c : Config) (path other : Path) (t : Thing) → IsFirstRace c path other t → Bad c
 race-bad c path other t r = inr (conflicts-race c path other t
     (λ e. before-self other (subst (λ (z : Path). path_before z other ≡ true) e r.ordered)) r.conflicts)
 

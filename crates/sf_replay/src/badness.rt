@@ -1,12 +1,12 @@
 //! The first task at an absent cell, and the first race.
 
-ghost use Rattle.std.specs.Prelude.{◌≡◌, IfOk, MatchOption};
+ghost use Rattle.std.specs.Prelude.{◌≡◌, IfOk, MatchOption, map};
 ghost use Rattle.sf_core.specs.Machine.Bad.{Bad};
 ghost use Rattle.sf_core.specs.Program.ProgramView.{program_of};
 ghost use Rattle.sf_machine.specs.Configs.{config_of};
 ghost use Rattle.sf_machine.specs.Reached.{IsReached};
 ghost use Rattle.sf_replay.specs.Checked.Going.{IsBadAt};
-ghost use Rattle.sf_replay.specs.Checked.Looks.{absent_in, found_in, partner_in, race_in};
+ghost use Rattle.sf_replay.specs.Checked.Looks.{absent_in, found_in, partner_in, race_in, seen_of};
 
 use crate::found::Found;
 use crate::look::{Look, looks, meeting};
@@ -17,7 +17,7 @@ use std::alloc::{AllocError, Global};
 
 /// The first of these that is at an absent cell, and the value at which it looks for one.
 fn first_absent(looks: &[Look]) -> Option<(TaskPath, Value)>
-    ensures { result ≡ absent_in looks.now }
+    ensures { result ≡ absent_in (map seen_of looks.now) }
 {
     let mut left = looks;
     'looks: while let Some((look, rest)) = left.split_first() {
@@ -31,7 +31,7 @@ fn first_absent(looks: &[Look]) -> Option<(TaskPath, Value)>
 
 /// The first of these whose step conflicts with the one's, and the first thing on which it does.
 fn first_partner(one: &Look, others: &[Look]) -> Option<(TaskPath, Thing)>
-    ensures { result ≡ partner_in one.now others.now }
+    ensures { result ≡ partner_in (seen_of one.now) (map seen_of others.now) }
 {
     let mut left = others;
     'looks: while let Some((other, rest)) = left.split_first() {
@@ -45,7 +45,7 @@ fn first_partner(one: &Look, others: &[Look]) -> Option<(TaskPath, Thing)>
 
 /// The first pair of these whose steps conflict, and the first thing on which they do.
 fn first_race(looks: &[Look]) -> Option<(TaskPath, TaskPath, Thing)>
-    ensures { result ≡ race_in looks.now }
+    ensures { result ≡ race_in (map seen_of looks.now) }
 {
     let mut left = looks;
     'looks: while let Some((look, rest)) = left.split_first() {
@@ -59,7 +59,7 @@ fn first_race(looks: &[Look]) -> Option<(TaskPath, TaskPath, Thing)>
 
 /// What is found in these after so many events.
 fn found_in(number: u64, looks: &[Look]) -> Option<Found>
-    ensures { result ≡ found_in number looks.now }
+    ensures { result ≡ found_in number (map seen_of looks.now) }
 {
     if let Some((path, value)) = first_absent(looks) {
         return Some(Found::Absent(number, path, value));

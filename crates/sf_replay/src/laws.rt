@@ -1,6 +1,6 @@
 //! Laws of replays, each the contract of a function that does nothing.
 
-ghost use Rattle.sf_replay.specs.Checked.Laws.{EventsAreReplayedOnce, SafeRunsAreRuns};
+ghost use Rattle.sf_replay.specs.Checked.Laws.{EventsAreReplayed, EventsAreReplayedOnce, SafeRunsAreRuns, SoundRunsAreClean, StartsAreReplayed};
 
 /// One thing is found of a list of events, or nothing for one reason, and not both. So each answer
 /// of `replay` comes exactly where its cause is.
@@ -14,4 +14,22 @@ pub fn events_are_replayed_once()
 #[tactic(auto, using(crate::proofs::Once::safe_runs_are_runs))]
 pub fn safe_runs_are_runs()
     ensures { SafeRunsAreRuns }
+{}
+
+/// Something is found of each list of events, or nothing for a reason.
+#[tactic(auto, using(crate::proofs::Answered::events_are_replayed))]
+pub fn events_are_replayed()
+    ensures { EventsAreReplayed }
+{}
+
+/// So it is of each list of events from each start of a procedure.
+#[tactic(auto, using(crate::proofs::Answered::starts_are_replayed))]
+pub fn starts_are_replayed()
+    ensures { StartsAreReplayed }
+{}
+
+/// Of a sound program neither an absent cell nor a race is found, whatever the events are.
+#[tactic(auto, using(crate::proofs::Answered::sound_runs_are_clean))]
+pub fn sound_runs_are_clean()
+    ensures { SoundRunsAreClean }
 {}

@@ -1,11 +1,11 @@
 //! What is known of the next step of each task.
 
-ghost use Rattle.std.specs.Prelude.{◌≡◌, IfOk};
+ghost use Rattle.std.specs.Prelude.{◌≡◌, IfOk, map};
 ghost use Rattle.sf_core.specs.Program.ProgramView.{program_of};
 ghost use Rattle.sf_machine.specs.Configs.{config_of};
 ghost use Rattle.sf_machine.specs.Paths.{paths_of};
 ghost use Rattle.sf_machine.specs.Reached.{IsReached};
-ghost use Rattle.sf_replay.specs.Checked.Looks.{AreLooks, IsLook, meeting};
+ghost use Rattle.sf_replay.specs.Checked.Looks.{AreLooks, IsLook, meeting, seen_of};
 
 use crate::things::least_in;
 use sf_base::{TaskPath, Thing, Value};
@@ -25,7 +25,7 @@ pub(crate) struct Look {
 /// What is known of the next step of the task at a path.
 fn make_look(p: &Program, c: &Config<'_>, path: TaskPath) -> Result<Look, AllocError>
     requires { IsReached (program_of p.now) (config_of c.now) }
-    ensures { IfOk result (IsLook (config_of c.now) path) }
+    ensures { IfOk result (λ look. IsLook (config_of c.now) path (seen_of look)) }
 {
     let accesses = accesses(p, c, path)?;
     Ok(Look {
@@ -43,7 +43,7 @@ fn look_at(
     paths: &[TaskPath],
 ) -> Result<Vec<Look>, AllocError>
     requires { IsReached (program_of p.now) (config_of c.now) }
-    ensures { IfOk result (λ looks. AreLooks (config_of c.now) paths.now looks.items) }
+    ensures { IfOk result (λ looks. AreLooks (config_of c.now) paths.now (map seen_of looks.items)) }
 {
     let mut looks = Vec::with_capacity(alloc, paths.len())?;
     let mut left = paths;
@@ -58,7 +58,7 @@ fn look_at(
 pub(crate) fn looks(alloc: Global, p: &Program, c: &Config<'_>) -> Result<Vec<Look>, AllocError>
     requires { IsReached (program_of p.now) (config_of c.now) }
     ensures { IfOk result (λ looks.
-        AreLooks (config_of c.now) (paths_of (config_of c.now).tasks) looks.items) }
+        AreLooks (config_of c.now) (paths_of (config_of c.now).tasks) (map seen_of looks.items)) }
 {
     let paths = paths(p, c)?;
     look_at(alloc, p, c, &paths)
@@ -66,7 +66,7 @@ pub(crate) fn looks(alloc: Global, p: &Program, c: &Config<'_>) -> Result<Vec<Lo
 
 /// The first thing on which two steps conflict: one writes what the other reads or writes.
 pub(crate) fn meeting(one: &Look, other: &Look) -> Option<Thing>
-    ensures { result ≡ meeting one.now other.now }
+    ensures { result ≡ meeting (seen_of one.now) (seen_of other.now) }
 {
     let read = least_in(None, &one.accesses.writes, &other.accesses.reads);
     let written = least_in(read, &one.accesses.writes, &other.accesses.writes);

@@ -13,14 +13,27 @@ use Rattle.sf_replay.specs.declared.found.Found.TheVariants.{Absent, Race}
 use Rattle.sf_replay.specs.declared.look.Look.{Look}
 use Rattle.sf_replay.specs.Order.{thing_before}
 
+-- what is known of the next step of a task: whose it is, the value at which it looks for a cell where there is none,
+-- and what it reads and writes
+pub record Seen : Type 0 where
+  pub path : Path
+  pub absent : Option Value
+  pub reads : List Thing
+  pub writes : List Thing
+
+-- what the code knows
+abbrev pub seen_of : Look → Seen
+seen_of l = record
+    { path = l.path; absent = l.absent; reads = l.accesses.reads.items; writes = l.accesses.writes.items }
+
 -- it is what is known of the next step of the task at the path
-pub record IsLook (c : Config) (path : Path) (look : Look) : Type 0 where
+pub record IsLook (c : Config) (path : Path) (look : Seen) : Type 0 where
   pub path_is : look.path ≡ path
   pub absent : MatchOption look.absent ((v : Value) → IsAtAbsent c path v → ⊥) (IsAtAbsent c path)
-  pub accesses : AreAccesses c path look.accesses.reads.items look.accesses.writes.items
+  pub accesses : AreAccesses c path look.reads look.writes
 
 -- they are what is known of the next steps of the tasks at the paths
-abbrev pub AreLooks : Config → List Path → List Look → Type 0
+abbrev pub AreLooks : Config → List Path → List Seen → Type 0
 AreLooks c [] [] = Unit {0}
 AreLooks c [] (l ∷ ls) = ⊥
 AreLooks c (p ∷ ps) [] = ⊥
@@ -57,9 +70,8 @@ least_in least [] among = least
 least_in least (x ∷ xs) among = least_in (improved least x among) xs among
 
 -- the first thing on which two steps conflict
-abbrev pub meeting : Look → Look → Option Thing
-meeting l m = least_in (least_in (least_in None l.accesses.writes.items m.accesses.reads.items)
-    l.accesses.writes.items m.accesses.writes.items) l.accesses.reads.items m.accesses.writes.items
+abbrev pub meeting : Seen → Seen → Option Thing
+meeting l m = least_in (least_in (least_in None l.writes m.reads) l.writes m.writes) l.reads m.writes
 
 -- that path and thing, or else the others
 abbrev pub partner_or : Path → Option Thing → Option (Path × Thing) → Option (Path × Thing)
@@ -67,7 +79,7 @@ partner_or path None rest = rest
 partner_or path (Some x) rest = Some (path, x)
 
 -- the first of these whose step conflicts with the one's, and the first thing on which it does
-abbrev pub partner_in : Look → List Look → Option (Path × Thing)
+abbrev pub partner_in : Seen → List Seen → Option (Path × Thing)
 partner_in l [] = None
 partner_in l (m ∷ ms) = partner_or m.path (meeting l m) (partner_in l ms)
 
@@ -77,7 +89,7 @@ race_or path None rest = rest
 race_or path (Some found) rest = Some (path, found.0, found.1)
 
 -- the first pair of these whose steps conflict, and the first thing on which they do
-abbrev pub race_in : List Look → Option (Path × Path × Thing)
+abbrev pub race_in : List Seen → Option (Path × Path × Thing)
 race_in [] = None
 race_in (l ∷ ls) = race_or l.path (partner_in l ls) (race_in ls)
 
@@ -87,7 +99,7 @@ absent_or path None rest = rest
 absent_or path (Some v) rest = Some (path, v)
 
 -- the first of these that is at an absent cell, and the value at which it looks for one
-abbrev pub absent_in : List Look → Option (Path × Value)
+abbrev pub absent_in : List Seen → Option (Path × Value)
 absent_in [] = None
 absent_in (l ∷ ls) = absent_or l.path l.absent (absent_in ls)
 
@@ -98,5 +110,5 @@ found_or number None (Some r) = Some (Race number r.0 r.1 r.2)
 found_or number None None = None
 
 -- what is found in these after so many events
-abbrev pub found_in : ℕ → List Look → Option Found
+abbrev pub found_in : ℕ → List Seen → Option Found
 found_in number looks = found_or number (absent_in looks) (race_in looks)
