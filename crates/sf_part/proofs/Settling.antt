@@ -10,18 +10,21 @@ use Rattle.sf_base.specs.declared.ids.ResId.{ResId}
 use Rattle.sf_core.specs.Checked.Machine.Laws.{HolderChanges, Moves}
 use Rattle.sf_core.specs.Machine.Config.{runs, Path, Common, Config, task_at, put_task}
 use Rattle.sf_core.specs.Machine.Next.{Next, does, leaves, returns, joins, nothing, next}
-use Rattle.sf_core.specs.Machine.Step.{Event, Step}
-use Rattle.sf_core.specs.Machine.Supplies.{has}
+use Rattle.sf_core.specs.Machine.Step.{Event}
+use Rattle.sf_core.specs.Machine.Supplies.{has, NextTakes}
 use Rattle.sf_core.specs.Machine.Whole.{Part, Content, holders, numbers, own_stand, stands, IsUnion, Whole}
 use Rattle.sf_core.specs.Program.Syntax.{Program}
 use Rattle.sf_core.proofs.Machine.Steps.{moved-by_next}
 use Rattle.sf_part.specs.Steps.{common_of, AreFrom, HandsOut, HasInHand, IsSettling, Settles}
 use Rattle.sf_part.specs.Timed.{TimedContent, TimedPart}
 use Rattle.sf_part.proofs.Beside.{Beside, beside-step, next-step, next_config, spent-number, spent-once, spent-one, spent-unused, takes-at, takes-one}
+use Rattle.sf_part.proofs.Leads.{Single, leads-along, leads-one, supplied-focus, supplied-unfocus}
+use Rattle.sf_part.proofs.Shares.{shares-run}
+use Rattle.sf_part.specs.Checked.Laws.{Leads}
 use Rattle.sf_part.proofs.Order.{content_heap, content_store, of_resource, of_resource-cons, part_heap, part_store, whole-focus, whole-unfocus}
 use Rattle.sf_part.proofs.Regions.{count-held, hand-holders}
 use Rattle.sf_part.proofs.Supplies.{one_if}
-use Rattle.sf_part.proofs.Trees.{tasks-run, tasks-runs}
+use Rattle.sf_part.proofs.Tasks.{tasks-run, tasks-runs}
 use Rattle.sf_part.proofs.Unions.{union-focus_tail, union-part, union-unsecond}
 
 -- the contents without their stamps
@@ -140,7 +143,7 @@ settle-step : (p : Program) (ev : Event) (a b : TimedPart) (out : List TimedCont
     (contents : List Content) (c : Config) → Settles p ev a out b
     → ((r : ResId) (path : Path) → c.common.held r ≡ Some path → r.0 < length p.resources)
     → Whole (a.part ∷ others) contents c
-    → (d : Config) × Step p ev c d × Whole (b.part ∷ others) (plain out ++ contents) d
+    → Single p ev c (a.part ∷ others) (b.part ∷ others) (plain out ++ contents)
 settle-step p ev a b out others contents c e known w =
     let what = next (runs e.frames) in
     let units : numbers a.part.supply ≡ ev.number ∷ numbers b.part.supply =
@@ -156,12 +159,13 @@ settle-step p ev a b out others contents c e known w =
     let freed : (r : ResId) → s.after.held r ≡ None = λ r. (
     let m = settle-moves p what r e.settling in
     s.moved r m ∙ settle-frees p what ev.task (holders a.part r) (holders e.all r) e.settling
-    (moved-by_next p ev (common_of a.part) (common_of e.all) what (runs e.kept) e.acts.steps r m)) in (
-      next_config c ev s.after (runs e.kept),
-      next-step p ev c (runs e.frames) (runs e.kept) s.after number.used
-          (subst (λ z. task_at z c.tasks ≡ Some (runs e.frames)) (sym e.acts.own)
-          (tasks-runs c.tasks a.part (map own_stand others) e.frames w.tasks e.acts.from_is)) s.steps,
-      record {
+    (moved-by_next p ev (common_of a.part) (common_of e.all) what (runs e.kept) e.acts.steps r m)) in
+    let there = subst (λ z. task_at z c.tasks ≡ Some (runs e.frames)) (sym e.acts.own)
+    (tasks-runs c.tasks a.part (map own_stand others) e.frames w.tasks e.acts.from_is) in
+    record {
+      config = next_config c ev s.after (runs e.kept);
+      step = next-step p ev c (runs e.frames) (runs e.kept) s.after number.used there s.steps;
+      whole = record {
         tasks = subst
             (λ z. IsUnion (stands (put_task z (runs e.kept) c.tasks)) (own_stand b.part ∷ map own_stand others))
             (sym e.acts.own)
@@ -176,8 +180,13 @@ settle-step p ev a b out others contents c e known w =
         once = spent-once ev (a.part ∷ others) (b.part ∷ others) spent w.once;
         unused = spent-unused ev (a.part ∷ others) (b.part ∷ others) c s.after (runs e.kept) spent w.once w.unused
             s.unused;
-      },
-    )
+      };
+      takes = shares-run ev c a.part b.part others e.frames e.kept e.acts.own there
+          (subst (λ z. NextTakes ev what (has (numbers a.part.supply)) (has (numbers z)))
+          (out-supply e.all b.part out e.out) e.spends) e.acts.from_is
+          (sym (out-task e.all b.part out e.out) ∙ e.acts.task)
+          (sym (out-stand e.all b.part out e.out) ∙ e.acts.to_is);
+    }
   where
     -- the part holds each resource of the program
     mine : (r : ResId) → r.0 < length p.resources → holders a.part r ≡ Some a.part.task
@@ -205,12 +214,15 @@ settle-step p ev a b out others contents c e known w =
         omega arith
 
 -- that of a part in the middle
-pub settling-step : (p : Program) (ev : Event) (a b : TimedPart) (out : List TimedContent) (before after : List Part)
+pub settling-leads : (p : Program) (ev : Event) (a b : TimedPart) (out : List TimedContent) (before after : List Part)
     (contents : List Content) (c : Config) → Settles p ev a out b
     → ((r : ResId) (path : Path) → c.common.held r ≡ Some path → r.0 < length p.resources)
     → Whole (before ++ a.part ∷ after) contents c
-    → (d : Config) × Step p ev c d × Whole (before ++ b.part ∷ after) (plain out ++ contents) d
-settling-step p ev a b out before after contents c e known w =
-    let (d, s, v) = settle-step p ev a b out (before ++ after) contents c e known
-    (whole-focus before after a.part contents c w) in
-    (d, s, whole-unfocus before after b.part (plain out ++ contents) d v)
+    → Leads p (ev ∷ []) c (before ++ a.part ∷ after) (before ++ b.part ∷ after) (plain out ++ contents)
+settling-leads p ev a b out before after contents c e known w =
+    leads-along p (ev ∷ []) c (a.part ∷ before ++ after) (before ++ a.part ∷ after) (b.part ∷ before ++ after)
+    (before ++ b.part ∷ after) (plain out ++ contents) (plain out ++ contents)
+    (λ s h. supplied-focus s before after a.part h) (λ s h. supplied-unfocus s before after b.part h)
+    (λ d h. whole-unfocus before after b.part (plain out ++ contents) d h)
+    (leads-one p ev c (a.part ∷ before ++ after) (b.part ∷ before ++ after) (plain out ++ contents)
+    (settle-step p ev a b out (before ++ after) contents c e known (whole-focus before after a.part contents c w)))

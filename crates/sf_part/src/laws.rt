@@ -9,6 +9,7 @@ ghost use Rattle.sf_part.specs.Checked.Laws.{
   ExitsAreSteps,
   ForksAreSteps,
   JoinsAreSteps,
+  LeadsCompose,
   NewCellsAreAbsent,
   PartsInAnyOrder,
   PrivateEventsAreSteps,
@@ -77,4 +78,10 @@ pub fn events_of_parts_differ()
 #[tactic(auto, using(crate::proofs::Law::new_cells_are_absent))]
 pub fn new_cells_are_absent()
     ensures { NewCellsAreAbsent }
+{}
+
+/// What events lead to more events may lead on from: both together lead there.
+#[tactic(auto, using(crate::proofs::Law::leads_compose))]
+pub fn leads_compose()
+    ensures { LeadsCompose }
 {}
