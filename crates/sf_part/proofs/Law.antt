@@ -1,6 +1,7 @@
 -- The law of parts, case by case.
 -- Names: each lemma has the name of the law's function.
-use Rattle.sf_part.specs.Checked.Laws.{ContentsInAnyOrder, EntriesAreSteps, EventsOfPartsDiffer, ExitsAreSteps, ForksAreSteps, JoinsAreSteps, LeadsCompose, NewCellsAreAbsent, PartsInAnyOrder, PrivateEventsAreSteps, SettlingIsAStep}
+use Rattle.sf_part.specs.Checked.Laws.{ContentsInAnyOrder, EntriesAreSteps, EventsOfPartsDiffer, ExitsAreSteps, FirstPartsAreWhole, ForksAreSteps, JoinsAreSteps, LeadsCompose, NewCellsAreAbsent, PartsInAnyOrder, PrivateEventsAreSteps, SettlingIsAStep}
+use Rattle.sf_part.proofs.Firsts.{first-whole}
 use Rattle.sf_part.proofs.Forks.{forks-lead, joins-lead}
 use Rattle.sf_part.proofs.Leads.{leads-compose}
 use Rattle.sf_part.proofs.Numbers.{cells-absent, events-differ}
@@ -54,3 +55,7 @@ new_cells_are_absent = cells-absent
 pub leads_compose : LeadsCompose
 unfolding LeadsCompose
 leads_compose = leads-compose
+
+pub first_parts_are_whole : FirstPartsAreWhole
+unfolding FirstPartsAreWhole
+first_parts_are_whole = first-whole

@@ -12,4 +12,5 @@ pub mod Regions
 pub mod Settling
 pub mod Forks
 pub mod Numbers
+pub mod Firsts
 pub mod Law

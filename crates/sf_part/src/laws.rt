@@ -7,6 +7,7 @@ ghost use Rattle.sf_part.specs.Checked.Laws.{
   EntriesAreSteps,
   EventsOfPartsDiffer,
   ExitsAreSteps,
+  FirstPartsAreWhole,
   ForksAreSteps,
   JoinsAreSteps,
   LeadsCompose,
@@ -84,4 +85,11 @@ pub fn new_cells_are_absent()
 #[tactic(auto, using(crate::proofs::Law::leads_compose))]
 pub fn leads_compose()
     ensures { LeadsCompose }
+{}
+
+/// The part with which a procedure starts, and the contents beside it, are the configuration in
+/// which it starts, settled or fresh; and the part has all the units.
+#[tactic(auto, using(crate::proofs::Law::first_parts_are_whole))]
+pub fn first_parts_are_whole()
+    ensures { FirstPartsAreWhole }
 {}

@@ -1,8 +1,10 @@
 -- The law of parts: from parts and contents that are a configuration, an event of one of them is a step of the machine,
 -- and they are a configuration again, whatever the other parts and contents are.
 -- Yang and O'Hearn, "A Semantic Basis for Local Reasoning" (2002); Brookes (2007) for regions and parallel calls.
-use Rattle.std.specs.Prelude.{◌≡◌, ◌<◌, ℕ, List, [], ◌∷◌, ◌++◌, ◌↔◌, length, map, Some, None}
+use Rattle.std.specs.Prelude.{◌≡◌, ◌<◌, ℕ, List, [], ◌∷◌, ◌++◌, ◌↔◌, length, Some, None}
+use Rattle.sf_base.specs.declared.ids.ProcId.{ProcId}
 use Rattle.sf_base.specs.declared.ids.ResId.{ResId}
+use Rattle.sf_base.specs.HeapStore.{Heap, Store}
 use Rattle.sf_core.specs.Checked.Machine.Laws.{HasNumber, Makes}
 use Rattle.sf_core.specs.Machine.Config.{runs, Path, Config}
 use Rattle.sf_core.specs.Machine.Enabled.{cell}
@@ -10,12 +12,14 @@ use Rattle.sf_core.specs.Machine.Next.{next}
 use Rattle.sf_core.specs.Machine.Reach.{Reach}
 use Rattle.sf_core.specs.Machine.Numbered.{NumberedFrom}
 use Rattle.sf_core.specs.Machine.Step.{Event}
-use Rattle.sf_core.specs.Machine.Supplies.{Supply}
+use Rattle.sf_core.specs.Machine.Start.{Start}
+use Rattle.sf_core.specs.Machine.Supplies.{Supply, has, units}
 use Rattle.sf_core.specs.Machine.Whole.{Part, Content, Whole}
 use Rattle.sf_core.specs.Program.Syntax.{Program}
+use Rattle.sf_part.specs.First.{First}
 use Rattle.sf_part.specs.Steps.{Private, Privates, Enters, Exits, Settles, Forks, Joins}
 use Rattle.sf_part.specs.Supplied.{Supplied}
-use Rattle.sf_part.specs.Timed.{TimedPart, TimedContent}
+use Rattle.sf_part.specs.Timed.{TimedPart, TimedContent, contents_of}
 
 -- the order of the parts doesn't matter: each may come first
 unfoldable pub PartsInAnyOrder : Type 0
@@ -86,7 +90,7 @@ SettlingIsAStep = (p : Program) (event : Event) (a b : TimedPart) (settled : Lis
     → ((r : ResId) (path : Path) → c.common.held r ≡ Some path → r.0 < length p.resources)
     → Whole (before ++ a.part ∷ after) contents c
     → Leads p (event ∷ []) c (before ++ a.part ∷ after) (before ++ b.part ∷ after)
-    (map (λ (k : TimedContent). k.content) settled ++ contents)
+    (contents_of settled ++ contents)
 
 -- private events of two parts never have one number, whatever comes between them
 unfoldable pub EventsOfPartsDiffer : Type 0
@@ -100,3 +104,11 @@ unfoldable pub NewCellsAreAbsent : Type 0
 NewCellsAreAbsent = (p : Program) (event : Event) (a b : TimedPart) (before after : List Part)
     (contents : List Content) (c : Config) → (e : Private p event a b) → Whole (before ++ a.part ∷ after) contents c
     → (location : ℕ) → Makes p event (next (runs e.frames)) (cell location) → c.common.heap location ≡ None
+
+-- the first part and the contents beside it are the configuration in which the procedure starts, and the units are those
+-- from the base on
+unfoldable pub FirstPartsAreWhole : Type 0
+FirstPartsAreWhole = (p : Program) (f : ProcId) (store : Store) (heap : Heap) (c : Config) (base count : ℕ)
+    (a : TimedPart) (contents : List TimedContent) → (s : Start p f store heap c)
+    → First p f s.procedure s.beginning store heap base count a contents
+    → Whole (a.part ∷ []) (contents_of contents) c × Supplied (a.part ∷ []) (has (units base count))
