@@ -9,16 +9,20 @@ use Rattle.sf_base.specs.HeapStore.{IsEmpty, Map, Splits}
 use Rattle.sf_core.specs.Checked.Machine.Laws.{Moves}
 use Rattle.sf_core.specs.Machine.Config.{Task, runs, waits, Config, task_at, put_task}
 use Rattle.sf_core.specs.Machine.Next.{Next, next}
-use Rattle.sf_core.specs.Machine.Step.{Event, Step}
+use Rattle.sf_core.specs.Machine.Step.{Event}
 use Rattle.sf_core.specs.Machine.Supplies.{has, lent}
 use Rattle.sf_core.specs.Machine.Whole.{Part, Content, holders, numbers, own_stand, stands, supplies, IsUnion, Whole}
 use Rattle.sf_core.specs.Program.Syntax.{Program}
 use Rattle.sf_part.specs.Steps.{Forks, HasChildren, IsFork, Joins}
 use Rattle.sf_part.specs.Timed.{TimedPart}
 use Rattle.sf_part.proofs.Beside.{beside-step, free-after, next-step, next_config, Spent, spent-number, spent-once, spent-unused, takes-at, takes-fork, takes-join}
-use Rattle.sf_part.proofs.Order.{content_heap, content_store, part_heap, part_store, whole-focus, whole-second, whole-third, whole-unfocus, whole-unsecond, whole-unthird}
+use Rattle.sf_part.proofs.Leads.{Single, leads-along, leads-one, order-three, order-three_back, supplied-focus, supplied-unfocus}
+use Rattle.sf_part.proofs.Shares.{shares-fork, shares-join}
+use Rattle.sf_part.specs.Checked.Laws.{Leads}
+use Rattle.sf_part.specs.Supplied.{Supplied}
+use Rattle.sf_part.proofs.Order.{content_heap, content_store, part_heap, part_store, whole-focus, whole-unfocus}
 use Rattle.sf_part.proofs.Supplies.{count-append, count-cons, times}
-use Rattle.sf_part.proofs.Trees.{tasks-ended, tasks-fork, tasks-join, tasks-runs}
+use Rattle.sf_part.proofs.Tasks.{tasks-ended, tasks-fork, tasks-join, tasks-runs}
 use Rattle.sf_part.proofs.Unions.{union-gather, union-open}
 
 -- a part that holds no resource
@@ -74,7 +78,7 @@ join-spent ev a one two b others e n =
 -- the fork of the first part is a step
 pub fork-step : (p : Program) (ev : Event) (a b one two : TimedPart) (others : List Part) (contents : List Content)
     (c : Config) → Forks p ev a b one two → Whole (a.part ∷ others) contents c
-    → (d : Config) × Step p ev c d × Whole (b.part ∷ one.part ∷ two.part ∷ others) contents d
+    → Single p ev c (a.part ∷ others) (b.part ∷ one.part ∷ two.part ∷ others) contents
 fork-step p ev a b one two others contents c e w =
     let what = next (runs e.frames) in
     let to : Task = waits e.kept (runs e.left_frames) (runs e.right_frames) in
@@ -89,12 +93,13 @@ fork-step p ev a b one two others contents c e w =
     (record { heap = w.heap; store = w.store; held = w.held }) number
     (takes-at p ev what (has (numbers a.part.supply))
     (lent (has (numbers one.part.supply)) (has (numbers two.part.supply))) e.spends) (λ r m. absurd (still r m)) in
-    let task = sym e.children.task ∙ e.acts.task in (
-      next_config c ev s.after to,
-      next-step p ev c (runs e.frames) to s.after number.used
-          (subst (λ z. task_at z c.tasks ≡ Some (runs e.frames)) (sym e.acts.own)
-          (tasks-runs c.tasks a.part (map own_stand others) e.frames w.tasks e.acts.from_is)) s.steps,
-      record {
+    let task = sym e.children.task ∙ e.acts.task in
+    let there = subst (λ z. task_at z c.tasks ≡ Some (runs e.frames)) (sym e.acts.own)
+    (tasks-runs c.tasks a.part (map own_stand others) e.frames w.tasks e.acts.from_is) in
+    record {
+      config = next_config c ev s.after to;
+      step = next-step p ev c (runs e.frames) to s.after number.used there s.steps;
+      whole = record {
         tasks = subst (λ z. IsUnion (stands (put_task z to c.tasks)) (map own_stand news)) (sym e.acts.own)
             (tasks-fork c.tasks a.part b.part one.part two.part (map own_stand others) e.frames e.kept e.left_frames
             e.right_frames w.tasks e.acts.from_is task (sym e.children.stand ∙ e.acts.to_is)
@@ -113,13 +118,17 @@ fork-step p ev a b one two others contents c e w =
         different = w.different;
         once = spent-once ev olds news spent w.once;
         unused = spent-unused ev olds news c s.after to spent w.once w.unused s.unused;
-      },
-    )
+      };
+      takes = shares-fork ev c a.part b.part one.part two.part others e.frames e.kept e.left_frames e.right_frames e.acts.own
+          there e.spends e.acts.from_is task (sym e.children.stand ∙ e.acts.to_is)
+          (e.children.left_one.task ∙ ap (λ z. z ++ left ∷ []) task) e.left_begins.stand
+          (e.children.right_one.task ∙ ap (λ z. z ++ right ∷ []) task) e.right_begins.stand;
+    }
 
 -- the join of the second and the third part by the first is a step
 pub join-step : (p : Program) (ev : Event) (a one two b : TimedPart) (others : List Part) (contents : List Content)
     (c : Config) → Joins p ev a one two b → Whole (a.part ∷ one.part ∷ two.part ∷ others) contents c
-    → (d : Config) × Step p ev c d × Whole (b.part ∷ others) contents d
+    → Single p ev c (a.part ∷ one.part ∷ two.part ∷ others) (b.part ∷ others) contents
 join-step p ev a one two b others contents c e w =
     let from : Task = waits e.frames (runs []) (runs []) in
     let what = next from in
@@ -142,13 +151,14 @@ join-step p ev a one two b others contents c e w =
     (takes-at p ev what (lent (has (numbers one.part.supply)) (has (numbers two.part.supply)))
     (has (numbers b.part.supply)) e.spends) (λ r m. absurd m) in
     let own = e.acts.own ∙ e.children.task in
-    let from_is = sym e.children.stand ∙ e.acts.from_is in (
-      next_config c ev s.after (runs e.kept),
-      next-step p ev c from (runs e.kept) s.after number.used
-          (subst (λ z. task_at z c.tasks ≡ Some from) (sym own)
-          (tasks-ended c.tasks a.part one.part two.part (map own_stand others) e.frames w.tasks from_is
-          e.children.left_one.task e.left_ended e.children.right_one.task e.right_ended)) s.steps,
-      record {
+    let from_is = sym e.children.stand ∙ e.acts.from_is in
+    let there = subst (λ z. task_at z c.tasks ≡ Some from) (sym own)
+    (tasks-ended c.tasks a.part one.part two.part (map own_stand others) e.frames w.tasks from_is
+    e.children.left_one.task e.left_ended e.children.right_one.task e.right_ended) in
+    record {
+      config = next_config c ev s.after (runs e.kept);
+      step = next-step p ev c from (runs e.kept) s.after number.used there s.steps;
+      whole = record {
         tasks = subst (λ z. IsUnion (stands (put_task z (runs e.kept) c.tasks)) (own_stand b.part ∷ map own_stand others))
             (sym own)
             (tasks-join c.tasks a.part one.part two.part b.part (map own_stand others) e.frames e.kept w.tasks from_is
@@ -161,30 +171,40 @@ join-step p ev a one two b others contents c e w =
         different = w.different;
         once = spent-once ev olds news spent w.once;
         unused = spent-unused ev olds news c s.after (runs e.kept) spent w.once w.unused s.unused;
-      },
-    )
+      };
+      takes = shares-join ev c a.part one.part two.part b.part others e.frames e.kept own there e.spends from_is
+          e.children.left_one.task e.left_ended e.children.right_one.task e.right_ended
+          (e.acts.task ∙ e.children.task) e.acts.to_is;
+    }
 
--- a part in the middle
-pub forks-step : (p : Program) (ev : Event) (a b one two : TimedPart) (before after : List Part)
+-- the fork of a part in the middle
+pub forks-lead : (p : Program) (ev : Event) (a b one two : TimedPart) (before after : List Part)
     (contents : List Content) (c : Config) → Forks p ev a b one two → Whole (before ++ a.part ∷ after) contents c
-    → (d : Config) × Step p ev c d × Whole (before ++ b.part ∷ one.part ∷ two.part ∷ after) contents d
-forks-step p ev a b one two before after contents c e w =
-    let (d, s, v) = fork-step p ev a b one two (before ++ after) contents c e
-    (whole-focus before after a.part contents c w) in (
-      d,
-      s,
-      whole-unfocus before (one.part ∷ two.part ∷ after) b.part contents d
-          (whole-unsecond before (two.part ∷ after) contents d b.part one.part
-          (whole-unthird before after contents d b.part one.part two.part v)),
-    )
+    → Leads p (ev ∷ []) c (before ++ a.part ∷ after) (before ++ b.part ∷ one.part ∷ two.part ∷ after) contents
+forks-lead p ev a b one two before after contents c e w =
+    leads-along p (ev ∷ []) c (a.part ∷ before ++ after) (before ++ a.part ∷ after)
+    (b.part ∷ one.part ∷ two.part ∷ before ++ after) (before ++ b.part ∷ one.part ∷ two.part ∷ after) contents contents
+    (λ s h. supplied-focus s before after a.part h)
+    (λ s h. order-three_back (λ parts. Supplied parts s) (supplied-focus s) (supplied-unfocus s) before after b.part
+    one.part two.part h)
+    (λ d h. order-three_back (λ parts. Whole parts contents d) (λ x y z k. whole-focus x y z contents d k)
+    (λ x y z k. whole-unfocus x y z contents d k) before after b.part one.part two.part h)
+    (leads-one p ev c (a.part ∷ before ++ after) (b.part ∷ one.part ∷ two.part ∷ before ++ after) contents
+    (fork-step p ev a b one two (before ++ after) contents c e (whole-focus before after a.part contents c w)))
 
-pub joins-step : (p : Program) (ev : Event) (a one two b : TimedPart) (before after : List Part)
+-- and its join
+pub joins-lead : (p : Program) (ev : Event) (a one two b : TimedPart) (before after : List Part)
     (contents : List Content) (c : Config) → Joins p ev a one two b
     → Whole (before ++ a.part ∷ one.part ∷ two.part ∷ after) contents c
-    → (d : Config) × Step p ev c d × Whole (before ++ b.part ∷ after) contents d
-joins-step p ev a one two b before after contents c e w =
-    let (d, s, v) = join-step p ev a one two b (before ++ after) contents c e
-    (whole-third before after contents c a.part one.part two.part
-    (whole-second before (two.part ∷ after) contents c a.part one.part
-    (whole-focus before (one.part ∷ two.part ∷ after) a.part contents c w))) in
-    (d, s, whole-unfocus before after b.part contents d v)
+    → Leads p (ev ∷ []) c (before ++ a.part ∷ one.part ∷ two.part ∷ after) (before ++ b.part ∷ after) contents
+joins-lead p ev a one two b before after contents c e w =
+    leads-along p (ev ∷ []) c (a.part ∷ one.part ∷ two.part ∷ before ++ after)
+    (before ++ a.part ∷ one.part ∷ two.part ∷ after) (b.part ∷ before ++ after) (before ++ b.part ∷ after) contents
+    contents
+    (λ s h. order-three (λ parts. Supplied parts s) (supplied-focus s) (supplied-unfocus s) before after a.part one.part
+    two.part h)
+    (λ s h. supplied-unfocus s before after b.part h) (λ d h. whole-unfocus before after b.part contents d h)
+    (leads-one p ev c (a.part ∷ one.part ∷ two.part ∷ before ++ after) (b.part ∷ before ++ after) contents
+    (join-step p ev a one two b (before ++ after) contents c e
+    (order-three (λ parts. Whole parts contents c) (λ x y z k. whole-focus x y z contents c k)
+    (λ x y z k. whole-unfocus x y z contents c k) before after a.part one.part two.part w)))

@@ -2,6 +2,9 @@ pub mod Unions
 pub mod Supplies
 pub mod Order
 pub mod Trees
+pub mod Tasks
+pub mod Shares
+pub mod Leads
 pub mod Acts
 pub mod Beside
 pub mod Private
@@ -9,4 +12,5 @@ pub mod Regions
 pub mod Settling
 pub mod Forks
 pub mod Numbers
+pub mod Firsts
 pub mod Law

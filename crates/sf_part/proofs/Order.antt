@@ -60,28 +60,6 @@ whole-unfocus before after a contents c w = record {
   unused = unused-same c (a ∷ before ++ after) (before ++ a ∷ after) (λ n. sym (count-focus n before a after)) w.unused;
 }
 
--- a part in the middle may come second, or third
-module _ (before after : List Part) (contents : List Content) (c : Config) where
-  pub whole-second : (x y : Part) → Whole (x ∷ before ++ y ∷ after) contents c → Whole (x ∷ y ∷ before ++ after) contents c
-  whole-second x y w =
-      whole-unfocus (x ∷ []) (before ++ after) y contents c (whole-focus (x ∷ before) after y contents c w)
-
-  pub whole-third : (x y z : Part) → Whole (x ∷ y ∷ before ++ z ∷ after) contents c
-      → Whole (x ∷ y ∷ z ∷ before ++ after) contents c
-  whole-third x y z w =
-      whole-unfocus (x ∷ y ∷ []) (before ++ after) z contents c (whole-focus (x ∷ y ∷ before) after z contents c w)
-
-  -- and back
-  pub whole-unsecond : (x y : Part) → Whole (x ∷ y ∷ before ++ after) contents c
-      → Whole (x ∷ before ++ y ∷ after) contents c
-  whole-unsecond x y w =
-      whole-unfocus (x ∷ before) after y contents c (whole-focus (x ∷ []) (before ++ after) y contents c w)
-
-  pub whole-unthird : (x y z : Part) → Whole (x ∷ y ∷ z ∷ before ++ after) contents c
-      → Whole (x ∷ y ∷ before ++ z ∷ after) contents c
-  whole-unthird x y z w =
-      whole-unfocus (x ∷ y ∷ before) after z contents c (whole-focus (x ∷ y ∷ []) (before ++ after) z contents c w)
-
 -- how many contents are of a resource
 abbrev pub of_resource : ResId → List Content → ℕ
 of_resource r contents = count_by (λ (k : Content). k.resource.0 == r.0) contents

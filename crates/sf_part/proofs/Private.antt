@@ -1,21 +1,23 @@
 -- Private events are steps.
 -- Names: `private-LAW`.
 use Rattle.std.specs.Prelude.{◌≡◌, List, [], ◌∷◌, ◌++◌, map, Some}
-use Rattle.std.proofs.Common.{true≢false, sym, ◌∙◌, refl, subst}
+use Rattle.std.proofs.Common.{true≢false, sym, ◌∙◌, subst}
 use Rattle.sf_base.specs.declared.ids.ResId.{ResId}
 use Rattle.sf_core.specs.Checked.Machine.Laws.{Moves}
 use Rattle.sf_core.specs.Machine.Config.{runs, Config, task_at, put_task}
 use Rattle.sf_core.specs.Machine.Next.{Next, does, leaves, returns, joins, nothing, next}
-use Rattle.sf_core.specs.Machine.Reach.{Reach}
-use Rattle.sf_core.specs.Machine.Step.{Event, Step}
+use Rattle.sf_core.specs.Machine.Step.{Event}
 use Rattle.sf_core.specs.Machine.Supplies.{has}
 use Rattle.sf_core.specs.Machine.Whole.{Part, Content, numbers, own_stand, stands, IsUnion, Whole}
 use Rattle.sf_core.specs.Program.Syntax.{fork, with, Program}
 use Rattle.sf_part.specs.Steps.{IsPrivate, Private, Privates}
 use Rattle.sf_part.specs.Timed.{TimedPart}
 use Rattle.sf_part.proofs.Beside.{beside-step, free-after, next-step, next_config, spent-number, spent-once, spent-one, spent-unused, takes-at, takes-one}
+use Rattle.sf_part.proofs.Leads.{Single, leads-along, leads-compose, leads-none, leads-one, supplied-focus, supplied-unfocus}
+use Rattle.sf_part.proofs.Shares.{shares-run}
+use Rattle.sf_part.specs.Checked.Laws.{Leads}
 use Rattle.sf_part.proofs.Order.{whole-focus, whole-unfocus}
-use Rattle.sf_part.proofs.Trees.{tasks-run, tasks-runs}
+use Rattle.sf_part.proofs.Tasks.{tasks-run, tasks-runs}
 
 -- a private event moves no resource
 private-still : (p : Program) (what : Next) (r : ResId) → IsPrivate p what → Moves p what r → ⊥
@@ -30,7 +32,7 @@ private-still p nothing r h m = h
 -- a private event of the first part is a step
 pub private-step : (p : Program) (ev : Event) (a b : TimedPart) (others : List Part) (contents : List Content)
     (c : Config) → Private p ev a b → Whole (a.part ∷ others) contents c
-    → (d : Config) × Step p ev c d × Whole (b.part ∷ others) contents d
+    → Single p ev c (a.part ∷ others) (b.part ∷ others) contents
 private-step p ev a b others contents c e w =
     let units = takes-one ev (next (runs e.frames)) (numbers a.part.supply) (numbers b.part.supply) e.spends in
     let spent = spent-one ev a.part b.part others units in
@@ -39,12 +41,13 @@ private-step p ev a b others contents c e w =
     let s = beside-step p ev a.part b.part (runs e.frames) (runs e.kept) others contents c e.acts
     (record { heap = w.heap; store = w.store; held = w.held }) number
     (takes-at p ev (next (runs e.frames)) (has (numbers a.part.supply)) (has (numbers b.part.supply)) e.spends)
-    (λ r m. absurd (still r m)) in (
-      next_config c ev s.after (runs e.kept),
-      next-step p ev c (runs e.frames) (runs e.kept) s.after number.used
-          (subst (λ z. task_at z c.tasks ≡ Some (runs e.frames)) (sym e.acts.own)
-          (tasks-runs c.tasks a.part (map own_stand others) e.frames w.tasks e.acts.from_is)) s.steps,
-      record {
+    (λ r m. absurd (still r m)) in
+    let there = subst (λ z. task_at z c.tasks ≡ Some (runs e.frames)) (sym e.acts.own)
+    (tasks-runs c.tasks a.part (map own_stand others) e.frames w.tasks e.acts.from_is) in
+    record {
+      config = next_config c ev s.after (runs e.kept);
+      step = next-step p ev c (runs e.frames) (runs e.kept) s.after number.used there s.steps;
+      whole = record {
         tasks = subst (λ z. IsUnion (stands (put_task z (runs e.kept) c.tasks)) (own_stand b.part ∷ map own_stand others))
             (sym e.acts.own)
             (tasks-run c.tasks a.part b.part (map own_stand others) e.frames e.kept w.tasks e.acts.from_is e.acts.task
@@ -57,25 +60,30 @@ private-step p ev a b others contents c e w =
         once = spent-once ev (a.part ∷ others) (b.part ∷ others) spent w.once;
         unused = spent-unused ev (a.part ∷ others) (b.part ∷ others) c s.after (runs e.kept) spent w.once w.unused
             s.unused;
-      },
-    )
+      };
+      takes = shares-run ev c a.part b.part others e.frames e.kept e.acts.own there e.spends e.acts.from_is e.acts.task
+          e.acts.to_is;
+    }
 
--- private events of the first part, one after the other, are a run
-private-reach : (p : Program) (events : List Event) (a b : TimedPart) (others : List Part) (contents : List Content)
+-- private events of the first part, one after the other, lead on
+private-leads : (p : Program) (events : List Event) (a b : TimedPart) (others : List Part) (contents : List Content)
     (c : Config) → Privates p a events b → Whole (a.part ∷ others) contents c
-    → (d : Config) × Reach p c events d × Whole (b.part ∷ others) contents d
-private-reach p [] a b others contents c e w =
-    (c, refl, subst (λ (z : TimedPart). Whole (z.part ∷ others) contents c) (sym e) w)
-private-reach p (ev ∷ events) a b others contents c (m, e, es) w =
-    let (d, s, v) = private-step p ev a m others contents c e w in
-    let (f, r, u) = private-reach p events m b others contents d es v in
-    (f, (d, s, r), u)
+    → Leads p events c (a.part ∷ others) (b.part ∷ others) contents
+private-leads p [] a b others contents c e w =
+    subst (λ (z : TimedPart). Leads p [] c (a.part ∷ others) (z.part ∷ others) contents) (sym e)
+    (leads-none p c (a.part ∷ others) contents w)
+private-leads p (ev ∷ events) a b others contents c (m, e, es) w =
+    let first = leads-one p ev c (a.part ∷ others) (m.part ∷ others) contents
+    (private-step p ev a m others contents c e w) in
+    leads-compose p (ev ∷ []) events c (a.part ∷ others) (m.part ∷ others) (b.part ∷ others) contents contents first
+    (private-leads p events m b others contents first.config es first.whole)
 
--- so are those of a part in the middle
-pub privates-reach : (p : Program) (events : List Event) (a b : TimedPart) (before after : List Part)
+-- so do those of a part in the middle
+pub privates-lead : (p : Program) (events : List Event) (a b : TimedPart) (before after : List Part)
     (contents : List Content) (c : Config) → Privates p a events b → Whole (before ++ a.part ∷ after) contents c
-    → (d : Config) × Reach p c events d × Whole (before ++ b.part ∷ after) contents d
-privates-reach p events a b before after contents c e w =
-    let (d, r, v) = private-reach p events a b (before ++ after) contents c e
-    (whole-focus before after a.part contents c w) in
-    (d, r, whole-unfocus before after b.part contents d v)
+    → Leads p events c (before ++ a.part ∷ after) (before ++ b.part ∷ after) contents
+privates-lead p events a b before after contents c e w =
+    leads-along p events c (a.part ∷ before ++ after) (before ++ a.part ∷ after) (b.part ∷ before ++ after)
+    (before ++ b.part ∷ after) contents contents (λ s h. supplied-focus s before after a.part h)
+    (λ s h. supplied-unfocus s before after b.part h) (λ d h. whole-unfocus before after b.part contents d h)
+    (private-leads p events a b (before ++ after) contents c e (whole-focus before after a.part contents c w))

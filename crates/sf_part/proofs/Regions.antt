@@ -11,17 +11,20 @@ use Rattle.sf_base.specs.declared.ids.ResId.{ResId}
 use Rattle.sf_core.specs.Checked.Machine.Laws.{HolderChanges, Moves}
 use Rattle.sf_core.specs.Machine.Config.{runs, Path, Common, Config, task_at, put_task}
 use Rattle.sf_core.specs.Machine.Next.{Next, next}
-use Rattle.sf_core.specs.Machine.Step.{Event, Step}
-use Rattle.sf_core.specs.Machine.Supplies.{has}
+use Rattle.sf_core.specs.Machine.Step.{Event}
+use Rattle.sf_core.specs.Machine.Supplies.{has, NextTakes}
 use Rattle.sf_core.specs.Machine.Whole.{Part, Content, holders, numbers, own_stand, stands, IsUnion, Whole}
 use Rattle.sf_core.specs.Program.Syntax.{Program}
 use Rattle.sf_core.proofs.Machine.Steps.{moved-by_next}
 use Rattle.sf_part.specs.Steps.{common_of, Enters, Exits, HasInHand, IsEntry, IsExit}
 use Rattle.sf_part.specs.Timed.{TimedContent, TimedPart}
 use Rattle.sf_part.proofs.Beside.{beside-step, free-after, next-step, next_config, spent-number, spent-once, spent-one, spent-unused, takes-at, takes-one}
+use Rattle.sf_part.proofs.Leads.{Single, leads-along, leads-one, supplied-focus, supplied-unfocus}
+use Rattle.sf_part.proofs.Shares.{shares-run}
+use Rattle.sf_part.specs.Checked.Laws.{Leads}
 use Rattle.sf_part.proofs.Order.{content_heap, content_store, of_resource, of_resource-cons, part_heap, part_store, whole-focus, whole-focus_content, whole-unfocus, whole-unfocus_content}
 use Rattle.sf_part.proofs.Supplies.{one_if}
-use Rattle.sf_part.proofs.Trees.{tasks-run, tasks-runs}
+use Rattle.sf_part.proofs.Tasks.{tasks-run, tasks-runs}
 use Rattle.sf_part.proofs.Unions.{union-join, union-part, union-second, union-unsecond}
 
 -- Contents of a resource
@@ -87,7 +90,7 @@ hand-holders a k both h = λ i. λ r. cond (h.holds i r) (Some (h.task i)) None
 -- the entry of a region by the first part, with the first content, is a step
 pub entry-step : (p : Program) (ev : Event) (a b : TimedPart) (k : TimedContent) (others : List Part)
     (contents : List Content) (c : Config) → Enters p ev a k b → Whole (a.part ∷ others) (k.content ∷ contents) c
-    → (d : Config) × Step p ev c d × Whole (b.part ∷ others) contents d
+    → Single p ev c (a.part ∷ others) (b.part ∷ others) contents
 entry-step p ev a b k others contents c e w =
     let what = next (runs e.frames) in
     let q = k.content.resource in
@@ -114,12 +117,13 @@ entry-step p ev a b k others contents c e w =
     (takes-at p ev what (has (numbers a.part.supply)) (has (numbers b.part.supply)) e.spends) hands in
     let own = e.acts.own ∙ e.hand.task in
     let from_is = sym e.hand.stand ∙ e.acts.from_is in
-    let none : of_resource q contents ≡ 0 = only_one (w.different q) in (
-      next_config c ev s.after (runs e.kept),
-      next-step p ev c (runs e.frames) (runs e.kept) s.after number.used
-          (subst (λ z. task_at z c.tasks ≡ Some (runs e.frames)) (sym own)
-          (tasks-runs c.tasks a.part (map own_stand others) e.frames w.tasks from_is)) s.steps,
-      record {
+    let none : of_resource q contents ≡ 0 = only_one (w.different q) in
+    let there = subst (λ z. task_at z c.tasks ≡ Some (runs e.frames)) (sym own)
+    (tasks-runs c.tasks a.part (map own_stand others) e.frames w.tasks from_is) in
+    record {
+      config = next_config c ev s.after (runs e.kept);
+      step = next-step p ev c (runs e.frames) (runs e.kept) s.after number.used there s.steps;
+      whole = record {
         tasks = subst (λ z. IsUnion (stands (put_task z (runs e.kept) c.tasks)) (own_stand b.part ∷ map own_stand others))
             (sym own)
             (tasks-run c.tasks a.part b.part (map own_stand others) e.frames e.kept w.tasks from_is
@@ -136,8 +140,10 @@ entry-step p ev a b k others contents c e w =
         once = spent-once ev (a.part ∷ others) (b.part ∷ others) spent w.once;
         unused = spent-unused ev (a.part ∷ others) (b.part ∷ others) c s.after (runs e.kept) spent w.once w.unused
             s.unused;
-      },
-    )
+      };
+      takes = shares-run ev c a.part b.part others e.frames e.kept own there e.spends from_is
+          (e.acts.task ∙ e.hand.task) e.acts.to_is;
+    }
   where
     only_one : of_resource k.content.resource (k.content ∷ contents) ≤ 1 → of_resource k.content.resource contents ≡ 0
     only_one h =
@@ -152,7 +158,7 @@ entry-step p ev a b k others contents c e w =
 -- the exit of the first part from a region, which leaves the first content behind, is a step
 pub exit-step : (p : Program) (ev : Event) (a b : TimedPart) (k : TimedContent) (others : List Part)
     (contents : List Content) (c : Config) → Exits p ev a k b → Whole (a.part ∷ others) contents c
-    → (d : Config) × Step p ev c d × Whole (b.part ∷ others) (k.content ∷ contents) d
+    → Single p ev c (a.part ∷ others) (b.part ∷ others) (k.content ∷ contents)
 exit-step p ev a b k others contents c e w =
     let what = next (runs e.frames) in
     let q = k.content.resource in
@@ -171,12 +177,13 @@ exit-step p ev a b k others contents c e w =
     (takes-at p ev what (has (numbers a.part.supply)) (has (numbers e.both.supply)) e.spends) hands in
     let moved = exit-moved p what q e.exit in
     let freed = λ (r : ResId) (m : Moves p what r). s.moved r m ∙ (changes r m).1 in
-    let none = count-held q ev.task c.common contents (sym (hands q moved) ∙ (changes q moved).0) w.free in (
-      next_config c ev s.after (runs e.kept),
-      next-step p ev c (runs e.frames) (runs e.kept) s.after number.used
-          (subst (λ z. task_at z c.tasks ≡ Some (runs e.frames)) (sym e.acts.own)
-          (tasks-runs c.tasks a.part (map own_stand others) e.frames w.tasks e.acts.from_is)) s.steps,
-      record {
+    let none = count-held q ev.task c.common contents (sym (hands q moved) ∙ (changes q moved).0) w.free in
+    let there = subst (λ z. task_at z c.tasks ≡ Some (runs e.frames)) (sym e.acts.own)
+    (tasks-runs c.tasks a.part (map own_stand others) e.frames w.tasks e.acts.from_is) in
+    record {
+      config = next_config c ev s.after (runs e.kept);
+      step = next-step p ev c (runs e.frames) (runs e.kept) s.after number.used there s.steps;
+      whole = record {
         tasks = subst (λ z. IsUnion (stands (put_task z (runs e.kept) c.tasks)) (own_stand b.part ∷ map own_stand others))
             (sym e.acts.own)
             (tasks-run c.tasks a.part b.part (map own_stand others) e.frames e.kept w.tasks e.acts.from_is
@@ -194,8 +201,11 @@ exit-step p ev a b k others contents c e w =
         once = spent-once ev (a.part ∷ others) (b.part ∷ others) spent w.once;
         unused = spent-unused ev (a.part ∷ others) (b.part ∷ others) c s.after (runs e.kept) spent w.once w.unused
             s.unused;
-      },
-    )
+      };
+      takes = shares-run ev c a.part b.part others e.frames e.kept e.acts.own there
+          (subst (λ z. NextTakes ev what (has (numbers a.part.supply)) (has (numbers z))) e.hand.supply e.spends)
+          e.acts.from_is (sym e.hand.task ∙ e.acts.task) (sym e.hand.stand ∙ e.acts.to_is);
+    }
   where
     more : (r : ResId) → of_resource k.content.resource contents ≡ 0 → of_resource r contents ≤ 1
         → of_resource r (k.content ∷ contents) ≤ 1
@@ -214,26 +224,31 @@ exit-step p ev a b k others contents c e w =
             omega arith
 
 -- entries by a part in the middle, with a content in the middle
-pub entries-step : (p : Program) (ev : Event) (a b : TimedPart) (k : TimedContent) (before after : List Part)
+pub entries-lead : (p : Program) (ev : Event) (a b : TimedPart) (k : TimedContent) (before after : List Part)
     (earlier later : List Content) (c : Config) → Enters p ev a k b
     → Whole (before ++ a.part ∷ after) (earlier ++ k.content ∷ later) c
-    → (d : Config) × Step p ev c d × Whole (before ++ b.part ∷ after) (earlier ++ later) d
-entries-step p ev a b k before after earlier later c e w =
-    let (d, s, v) = entry-step p ev a b k (before ++ after) (earlier ++ later) c e
+    → Leads p (ev ∷ []) c (before ++ a.part ∷ after) (before ++ b.part ∷ after) (earlier ++ later)
+entries-lead p ev a b k before after earlier later c e w =
+    leads-along p (ev ∷ []) c (a.part ∷ before ++ after) (before ++ a.part ∷ after) (b.part ∷ before ++ after)
+    (before ++ b.part ∷ after) (earlier ++ later) (earlier ++ later)
+    (λ s h. supplied-focus s before after a.part h) (λ s h. supplied-unfocus s before after b.part h)
+    (λ d h. whole-unfocus before after b.part (earlier ++ later) d h)
+    (leads-one p ev c (a.part ∷ before ++ after) (b.part ∷ before ++ after) (earlier ++ later)
+    (entry-step p ev a b k (before ++ after) (earlier ++ later) c e
     (whole-focus_content (a.part ∷ before ++ after) earlier later k.content c
-    (whole-focus before after a.part (earlier ++ k.content ∷ later) c w)) in
-    (d, s, whole-unfocus before after b.part (earlier ++ later) d v)
+    (whole-focus before after a.part (earlier ++ k.content ∷ later) c w))))
 
 -- exits of a part in the middle, with a content that comes into the middle
-pub exits-step : (p : Program) (ev : Event) (a b : TimedPart) (k : TimedContent) (before after : List Part)
+pub exits-lead : (p : Program) (ev : Event) (a b : TimedPart) (k : TimedContent) (before after : List Part)
     (earlier later : List Content) (c : Config) → Exits p ev a k b
     → Whole (before ++ a.part ∷ after) (earlier ++ later) c
-    → (d : Config) × Step p ev c d × Whole (before ++ b.part ∷ after) (earlier ++ k.content ∷ later) d
-exits-step p ev a b k before after earlier later c e w =
-    let (d, s, v) = exit-step p ev a b k (before ++ after) (earlier ++ later) c e
-    (whole-focus before after a.part (earlier ++ later) c w) in (
-      d,
-      s,
-      whole-unfocus before after b.part (earlier ++ k.content ∷ later) d
-          (whole-unfocus_content (b.part ∷ before ++ after) earlier later k.content d v),
-    )
+    → Leads p (ev ∷ []) c (before ++ a.part ∷ after) (before ++ b.part ∷ after) (earlier ++ k.content ∷ later)
+exits-lead p ev a b k before after earlier later c e w =
+    leads-along p (ev ∷ []) c (a.part ∷ before ++ after) (before ++ a.part ∷ after) (b.part ∷ before ++ after)
+    (before ++ b.part ∷ after) (k.content ∷ earlier ++ later) (earlier ++ k.content ∷ later)
+    (λ s h. supplied-focus s before after a.part h) (λ s h. supplied-unfocus s before after b.part h)
+    (λ d h. whole-unfocus before after b.part (earlier ++ k.content ∷ later) d
+    (whole-unfocus_content (b.part ∷ before ++ after) earlier later k.content d h))
+    (leads-one p ev c (a.part ∷ before ++ after) (b.part ∷ before ++ after) (k.content ∷ earlier ++ later)
+    (exit-step p ev a b k (before ++ after) (earlier ++ later) c e
+    (whole-focus before after a.part (earlier ++ later) c w)))

@@ -10,23 +10,22 @@ use Rattle.sf_base.specs.declared.ids.ResId.{ResId}
 use Rattle.sf_core.specs.Checked.Machine.Laws.{HolderChanges, Moves}
 use Rattle.sf_core.specs.Machine.Config.{runs, Path, Common, Config, task_at, put_task}
 use Rattle.sf_core.specs.Machine.Next.{Next, does, leaves, returns, joins, nothing, next}
-use Rattle.sf_core.specs.Machine.Step.{Event, Step}
-use Rattle.sf_core.specs.Machine.Supplies.{has}
+use Rattle.sf_core.specs.Machine.Step.{Event}
+use Rattle.sf_core.specs.Machine.Supplies.{has, NextTakes}
 use Rattle.sf_core.specs.Machine.Whole.{Part, Content, holders, numbers, own_stand, stands, IsUnion, Whole}
 use Rattle.sf_core.specs.Program.Syntax.{Program}
 use Rattle.sf_core.proofs.Machine.Steps.{moved-by_next}
 use Rattle.sf_part.specs.Steps.{common_of, AreFrom, HandsOut, HasInHand, IsSettling, Settles}
-use Rattle.sf_part.specs.Timed.{TimedContent, TimedPart}
+use Rattle.sf_part.specs.Timed.{TimedContent, TimedPart, contents_of}
 use Rattle.sf_part.proofs.Beside.{Beside, beside-step, next-step, next_config, spent-number, spent-once, spent-one, spent-unused, takes-at, takes-one}
+use Rattle.sf_part.proofs.Leads.{Single, leads-along, leads-one, supplied-focus, supplied-unfocus}
+use Rattle.sf_part.proofs.Shares.{shares-run}
+use Rattle.sf_part.specs.Checked.Laws.{Leads}
 use Rattle.sf_part.proofs.Order.{content_heap, content_store, of_resource, of_resource-cons, part_heap, part_store, whole-focus, whole-unfocus}
 use Rattle.sf_part.proofs.Regions.{count-held, hand-holders}
 use Rattle.sf_part.proofs.Supplies.{one_if}
-use Rattle.sf_part.proofs.Trees.{tasks-run, tasks-runs}
+use Rattle.sf_part.proofs.Tasks.{tasks-run, tasks-runs}
 use Rattle.sf_part.proofs.Unions.{union-focus_tail, union-part, union-unsecond}
-
--- the contents without their stamps
-abbrev pub plain : List TimedContent → List Content
-plain contents = map (λ (k : TimedContent). k.content) contents
 
 -- What is handed out
 -- one content
@@ -52,10 +51,10 @@ out-focus m others before k after s b = record {
 
 -- all of them, before those that are there
 out-all : (all rest : Part) (out : List TimedContent) (others : List Part) (contents : List Content) (s : Common)
-    → HandsOut all out rest → Beside all others contents s → Beside rest others (plain out ++ contents) s
+    → HandsOut all out rest → Beside all others contents s → Beside rest others (contents_of out ++ contents) s
 out-all all rest [] others contents s h b = subst (λ z. Beside z others contents s) (sym h) b
 out-all all rest (k ∷ out) others contents s (less, h, hs) b =
-    out-focus rest others (plain out) k.content contents s
+    out-focus rest others (contents_of out) k.content contents s
     (out-all less rest out others (k.content ∷ contents) s hs (out-one less all k.content others contents s h b))
 
 -- the task, how it stands, what it holds and its units stay
@@ -72,10 +71,10 @@ out-supply all rest [] h = ap (λ (z : Part). z.supply) (sym h)
 out-supply all rest (k ∷ out) (less, h, hs) = h.supply ∙ out-supply less rest out hs
 
 -- Contents in the order of their resources
-from-low : (r : ResId) (n : ℕ) (out : List TimedContent) → AreFrom n out → r.0 < n → of_resource r (plain out) ≡ 0
+from-low : (r : ResId) (n : ℕ) (out : List TimedContent) → AreFrom n out → r.0 < n → of_resource r (contents_of out) ≡ 0
 from-low r n [] a l = refl
 from-low r n (k ∷ out) (e, a) l =
-    let s = of_resource-cons r k.content (plain out) in
+    let s = of_resource-cons r k.content (contents_of out) in
     let h = from-low r (suc n) out a (omega arith) in
     elim (eqb_tells k.content.resource.0 r.0) [
       | inl t ↦ absurd (let same : k.content.resource.0 ≡ r.0 = t.1 in omega arith)
@@ -83,20 +82,20 @@ from-low r n (k ∷ out) (e, a) l =
     ]
 
 from-high : (r : ResId) (n : ℕ) (out : List TimedContent) → AreFrom n out → n + length out ≤ r.0
-    → of_resource r (plain out) ≡ 0
+    → of_resource r (contents_of out) ≡ 0
 from-high r n [] a l = refl
 from-high r n (k ∷ out) (e, a) l =
-    let s = of_resource-cons r k.content (plain out) in
+    let s = of_resource-cons r k.content (contents_of out) in
     let h = from-high r (suc n) out a (omega arith) in
     elim (eqb_tells k.content.resource.0 r.0) [
       | inl t ↦ absurd (let same : k.content.resource.0 ≡ r.0 = t.1 in omega arith)
       | inr t ↦ let o : one_if (k.content.resource.0 == r.0) ≡ 0 = ap one_if t.0 in omega arith
     ]
 
-from-once : (r : ResId) (n : ℕ) (out : List TimedContent) → AreFrom n out → of_resource r (plain out) ≤ 1
+pub from-once : (r : ResId) (n : ℕ) (out : List TimedContent) → AreFrom n out → of_resource r (contents_of out) ≤ 1
 from-once r n [] a = omega arith
 from-once r n (k ∷ out) (e, a) =
-    let s = of_resource-cons r k.content (plain out) in
+    let s = of_resource-cons r k.content (contents_of out) in
     let h = from-once r (suc n) out a in
     elim (eqb_tells k.content.resource.0 r.0) [
       | inl t ↦
@@ -140,7 +139,7 @@ settle-step : (p : Program) (ev : Event) (a b : TimedPart) (out : List TimedCont
     (contents : List Content) (c : Config) → Settles p ev a out b
     → ((r : ResId) (path : Path) → c.common.held r ≡ Some path → r.0 < length p.resources)
     → Whole (a.part ∷ others) contents c
-    → (d : Config) × Step p ev c d × Whole (b.part ∷ others) (plain out ++ contents) d
+    → Single p ev c (a.part ∷ others) (b.part ∷ others) (contents_of out ++ contents)
 settle-step p ev a b out others contents c e known w =
     let what = next (runs e.frames) in
     let units : numbers a.part.supply ≡ ev.number ∷ numbers b.part.supply =
@@ -156,12 +155,13 @@ settle-step p ev a b out others contents c e known w =
     let freed : (r : ResId) → s.after.held r ≡ None = λ r. (
     let m = settle-moves p what r e.settling in
     s.moved r m ∙ settle-frees p what ev.task (holders a.part r) (holders e.all r) e.settling
-    (moved-by_next p ev (common_of a.part) (common_of e.all) what (runs e.kept) e.acts.steps r m)) in (
-      next_config c ev s.after (runs e.kept),
-      next-step p ev c (runs e.frames) (runs e.kept) s.after number.used
-          (subst (λ z. task_at z c.tasks ≡ Some (runs e.frames)) (sym e.acts.own)
-          (tasks-runs c.tasks a.part (map own_stand others) e.frames w.tasks e.acts.from_is)) s.steps,
-      record {
+    (moved-by_next p ev (common_of a.part) (common_of e.all) what (runs e.kept) e.acts.steps r m)) in
+    let there = subst (λ z. task_at z c.tasks ≡ Some (runs e.frames)) (sym e.acts.own)
+    (tasks-runs c.tasks a.part (map own_stand others) e.frames w.tasks e.acts.from_is) in
+    record {
+      config = next_config c ev s.after (runs e.kept);
+      step = next-step p ev c (runs e.frames) (runs e.kept) s.after number.used there s.steps;
+      whole = record {
         tasks = subst
             (λ z. IsUnion (stands (put_task z (runs e.kept) c.tasks)) (own_stand b.part ∷ map own_stand others))
             (sym e.acts.own)
@@ -171,13 +171,18 @@ settle-step p ev a b out others contents c e known w =
         heap = beside.heap;
         store = beside.store;
         held = beside.held;
-        free = all-hold (λ (k : Content). s.after.held k.resource ≡ None) (plain out ++ contents) (λ k. freed k.resource);
+        free = all-hold (λ (k : Content). s.after.held k.resource ≡ None) (contents_of out ++ contents) (λ k. freed k.resource);
         different = λ r. one_each r (cases_lt r.0 (length p.resources));
         once = spent-once ev (a.part ∷ others) (b.part ∷ others) spent w.once;
         unused = spent-unused ev (a.part ∷ others) (b.part ∷ others) c s.after (runs e.kept) spent w.once w.unused
             s.unused;
-      },
-    )
+      };
+      takes = shares-run ev c a.part b.part others e.frames e.kept e.acts.own there
+          (subst (λ z. NextTakes ev what (has (numbers a.part.supply)) (has (numbers z)))
+          (out-supply e.all b.part out e.out) e.spends) e.acts.from_is
+          (sym (out-task e.all b.part out e.out) ∙ e.acts.task)
+          (sym (out-stand e.all b.part out e.out) ∙ e.acts.to_is);
+    }
   where
     -- the part holds each resource of the program
     mine : (r : ResId) → r.0 < length p.resources → holders a.part r ≡ Some a.part.task
@@ -190,27 +195,30 @@ settle-step p ev a b out others contents c e known w =
         let m = mine r (known r path h) in m ∙ sym (splits-has_left r a.part.task w.held.1 m)
 
     one_each : (r : ResId) → (r.0 < length p.resources) ⊎ (length p.resources ≤ r.0)
-        → of_resource r (plain out ++ contents) ≤ 1
+        → of_resource r (contents_of out ++ contents) ≤ 1
     one_each r (inl l) =
         let m = mine r l in
         let none = count-held r a.part.task c.common contents (splits-has_left r a.part.task w.held.1 m) w.free in
-        let sum = of_resource-append r (plain out) contents in
+        let sum = of_resource-append r (contents_of out) contents in
         let one = from-once r 0 out e.in_order in
         omega arith
     one_each r (inr l) =
         let each : length out ≡ length p.resources = e.each in
         let none = from-high r 0 out e.in_order (omega arith) in
-        let sum = of_resource-append r (plain out) contents in
+        let sum = of_resource-append r (contents_of out) contents in
         let one = w.different r in
         omega arith
 
 -- that of a part in the middle
-pub settling-step : (p : Program) (ev : Event) (a b : TimedPart) (out : List TimedContent) (before after : List Part)
+pub settling-leads : (p : Program) (ev : Event) (a b : TimedPart) (out : List TimedContent) (before after : List Part)
     (contents : List Content) (c : Config) → Settles p ev a out b
     → ((r : ResId) (path : Path) → c.common.held r ≡ Some path → r.0 < length p.resources)
     → Whole (before ++ a.part ∷ after) contents c
-    → (d : Config) × Step p ev c d × Whole (before ++ b.part ∷ after) (plain out ++ contents) d
-settling-step p ev a b out before after contents c e known w =
-    let (d, s, v) = settle-step p ev a b out (before ++ after) contents c e known
-    (whole-focus before after a.part contents c w) in
-    (d, s, whole-unfocus before after b.part (plain out ++ contents) d v)
+    → Leads p (ev ∷ []) c (before ++ a.part ∷ after) (before ++ b.part ∷ after) (contents_of out ++ contents)
+settling-leads p ev a b out before after contents c e known w =
+    leads-along p (ev ∷ []) c (a.part ∷ before ++ after) (before ++ a.part ∷ after) (b.part ∷ before ++ after)
+    (before ++ b.part ∷ after) (contents_of out ++ contents) (contents_of out ++ contents)
+    (λ s h. supplied-focus s before after a.part h) (λ s h. supplied-unfocus s before after b.part h)
+    (λ d h. whole-unfocus before after b.part (contents_of out ++ contents) d h)
+    (leads-one p ev c (a.part ∷ before ++ after) (b.part ∷ before ++ after) (contents_of out ++ contents)
+    (settle-step p ev a b out (before ++ after) contents c e known (whole-focus before after a.part contents c w)))

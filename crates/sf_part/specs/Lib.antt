@@ -1,3 +1,5 @@
 pub mod Timed
 pub mod Steps
+pub mod Supplied
+pub mod First
 pub mod Checked

@@ -1,6 +1,6 @@
 -- Parts and contents with the logical time of their events: clocks, stamps and logs.
 -- Lamport, "Time, Clocks, and the Ordering of Events in a Distributed System" (1978).
-use Rattle.std.specs.Prelude.{◌≡◌, ℕ, suc, Bool, cond, List, [], ◌∷◌, ◌++◌}
+use Rattle.std.specs.Prelude.{◌≡◌, ℕ, suc, Bool, cond, List, [], ◌∷◌, ◌++◌, map}
 use Rattle.sf_core.specs.Machine.Config.{Path}
 use Rattle.sf_core.specs.Machine.Step.{Event}
 use Rattle.sf_core.specs.Machine.Whole.{Part, Content}
@@ -23,6 +23,10 @@ pub record TimedPart : Type 0 where
 pub record TimedContent : Type 0 where
   pub content : Content
   pub stamp : ℕ
+
+-- contents without their stamps
+abbrev pub contents_of : List TimedContent → List Content
+contents_of contents = map (λ (k : TimedContent). k.content) contents
 
 -- what an event adds to a log, which is nothing where none is kept
 abbrev pub noted : Bool → Stamped → List Stamped

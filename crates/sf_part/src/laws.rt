@@ -7,8 +7,10 @@ ghost use Rattle.sf_part.specs.Checked.Laws.{
   EntriesAreSteps,
   EventsOfPartsDiffer,
   ExitsAreSteps,
+  FirstPartsAreWhole,
   ForksAreSteps,
   JoinsAreSteps,
+  LeadsCompose,
   NewCellsAreAbsent,
   PartsInAnyOrder,
   PrivateEventsAreSteps,
@@ -77,4 +79,17 @@ pub fn events_of_parts_differ()
 #[tactic(auto, using(crate::proofs::Law::new_cells_are_absent))]
 pub fn new_cells_are_absent()
     ensures { NewCellsAreAbsent }
+{}
+
+/// What events lead to more events may lead on from: both together lead there.
+#[tactic(auto, using(crate::proofs::Law::leads_compose))]
+pub fn leads_compose()
+    ensures { LeadsCompose }
+{}
+
+/// The part with which a procedure starts, and the contents beside it, are the configuration in
+/// which it starts, settled or fresh; and the part has all the units.
+#[tactic(auto, using(crate::proofs::Law::first_parts_are_whole))]
+pub fn first_parts_are_whole()
+    ensures { FirstPartsAreWhole }
 {}
