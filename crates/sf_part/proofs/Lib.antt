@@ -13,4 +13,5 @@ pub mod Settling
 pub mod Forks
 pub mod Numbers
 pub mod Firsts
+pub mod Times
 pub mod Law

@@ -66,7 +66,7 @@ out-stand : (all rest : Part) (out : List TimedContent) → HandsOut all out res
 out-stand all rest [] h = ap (λ (z : Part). z.stand) (sym h)
 out-stand all rest (k ∷ out) (less, h, hs) = h.stand ∙ out-stand less rest out hs
 
-out-supply : (all rest : Part) (out : List TimedContent) → HandsOut all out rest → all.supply ≡ rest.supply
+pub out-supply : (all rest : Part) (out : List TimedContent) → HandsOut all out rest → all.supply ≡ rest.supply
 out-supply all rest [] h = ap (λ (z : Part). z.supply) (sym h)
 out-supply all rest (k ∷ out) (less, h, hs) = h.supply ∙ out-supply less rest out hs
 

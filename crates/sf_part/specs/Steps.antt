@@ -198,6 +198,8 @@ pub record Joins (p : Program) (event : Event) (before one two after : TimedPart
   pub frames : List Frame
   pub kept : List Frame
   pub children : HasChildren before.part one.part two.part all
+  pub left_keeps : one.keeps ≡ before.keeps
+  pub right_keeps : two.keeps ≡ before.keeps
   pub left_ended : one.part.stand ≡ running []
   pub right_ended : two.part.stand ≡ running []
   pub acts : Acts p event all after.part (waits frames (runs []) (runs [])) (runs kept)

@@ -1,9 +1,11 @@
 -- Parts and contents with the logical time of their events: clocks, stamps and logs.
 -- Lamport, "Time, Clocks, and the Ordering of Events in a Distributed System" (1978).
-use Rattle.std.specs.Prelude.{◌≡◌, ℕ, suc, Bool, cond, List, [], ◌∷◌, ◌++◌, map}
+use Rattle.std.specs.Prelude.{◌≡◌, ◌≤◌, ◌+◌, ℕ, suc, Bool, false, cond, length, List, [], ◌∷◌, ◌++◌, map}
+use Rattle.std.specs.List.{AllByRecursion}
+use Rattle.sf_base.specs.declared.limits.TheConstants.{STEPS}
 use Rattle.sf_core.specs.Machine.Config.{Path}
 use Rattle.sf_core.specs.Machine.Step.{Event}
-use Rattle.sf_core.specs.Machine.Whole.{Part, Content}
+use Rattle.sf_core.specs.Machine.Whole.{Part, Content, numbers}
 
 -- an entry of a log: when an event was, whose it was, and its number
 pub record Stamped : Type 0 where
@@ -40,3 +42,10 @@ pub record Notes (clock : ℕ) (log : List Stamped) (event : Event) (before afte
   pub clock_is : after.clock ≡ suc clock
   pub log_is : after.log ≡ log ++ noted before.keeps
       (record { stamp = after.clock; task = event.task; number = event.number })
+
+-- IsInTime: no stamp of the log is above the clock; the clock and the units that are left are together at most as many as
+-- the events that a run may be given; and where no log is kept it is empty
+pub record IsInTime (a : TimedPart) : Type 0 where
+  pub logged : AllByRecursion (λ (entry : Stamped). entry.stamp ≤ a.clock) a.log
+  pub within : a.clock + length (numbers a.part.supply) ≤ STEPS
+  pub unlogged : a.keeps ≡ false → a.log ≡ []

@@ -2,6 +2,8 @@
 //! belongs to. So far this is said alone, of parts as the definitions have them.
 //!
 //! - `laws`: the law of parts.
+//! - `time`: clocks, stamps and logs.
 #![tactic(auto)]
 
 pub mod laws;
+pub mod time;
