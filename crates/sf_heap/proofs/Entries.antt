@@ -1,20 +1,16 @@
--- The entries of a heap's vector: what is found among them, and their order, with one entry more or less.
+-- The entries of a heap: what is found among them, and their order, with one entry more or less.
 -- Names: `found-CASE` for what is found, `AllAbove-LAW`, `AllBelow-LAW` and `Rises-LAW` for order, `map-LAW` for the
 -- finite map.
 use Rattle.std.proofs.Common.{◌≡◌, ℕ, ◌+◌, ◌<◌, cond, List, [], ◌∷◌, ◌++◌, length, Some, None, refl, sym, ap, ◌∙◌, subst, inl, inr, arith}
-use Rattle.std.specs.FinMap.{get, insert, remove, len, from_entries, get-from_entries, get-insert, get-remove, len-empty, len-insert}
+use Rattle.std.specs.FinMap.{get, insert, remove, len, get-from_entries, get-insert, get-remove, len-empty, len-insert}
 use Rattle.std.specs.Option.{is_some}
 use Rattle.std.specs.Ordering.{nat_cmp, eq_by_cmp}
 use Rattle.std.proofs.lemmas.Bool.{cases_eq}
 use Rattle.std.proofs.lemmas.Cmp.{nat_cmp_total}
-use Rattle.sf_heap.specs.Cells.{Cells, FieldValues}
-use Rattle.sf_heap.specs.declared.heap.Entry.{Entry}
-use Rattle.sf_heap.specs.Checked.Entries.{cells_of, found, AllAbove, AllBelow, Rises}
+use Rattle.sf_heap.specs.Cells.{FieldValues}
+use Rattle.sf_heap.specs.declared.tree.Entry.{Entry}
+use Rattle.sf_heap.specs.Checked.Entries.{cells_of, found, map_of, AllAbove, AllBelow, Rises}
 use Rattle.sf_heap.proofs.Keys.{at-same, at-other, same_cells}
-
--- the finite map of the entries
-abbrev pub map_of : List Entry → Cells
-map_of es = from_entries (cells_of es)
 
 -- the map has what is found
 pub get-map_of : (es : List Entry) (q : ℕ) → get (map_of es) q ≡ found q es

@@ -1,7 +1,9 @@
 pub mod Keys
 pub mod Entries
-pub mod Places
-pub mod Edits
 pub mod Splits
+pub mod Forks
 pub mod Merges
+pub mod Hands
+pub mod Clears
 pub mod Parts
+pub mod Copies

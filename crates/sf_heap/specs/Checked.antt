@@ -3,3 +3,4 @@
 pub mod Entries
 pub mod Lending
 pub mod Moves
+pub mod Trees

@@ -1,15 +1,15 @@
-//! Cells in boxes, in order of location.
+//! Cells at their locations, as a finite map.
 
 ghost use Rattle.std.specs.Prelude.{◌≡◌, ◌↔◌, IfNone, IfErr, IfOk, IsTrue, OnOk, OnErr, All};
 ghost use Rattle.std.specs.FinMap as map;
 ghost use Rattle.std.specs.Option.{option_map, option_copied, option_copied_mut};
 ghost use Rattle.sf_heap.specs.Cells.{AreAt, AreDisjoint, HasCell, heap_of};
 ghost use Rattle.sf_base.specs.HeapStore.{Splits};
-ghost use Rattle.sf_heap.specs.Checked.Entries.{Rises, IsAt, IsGap};
 
 use crate::cell::Cell;
 use crate::locations::Locations;
-use crate::moves::{merged, parted};
+use crate::moves::{brought, misses, parted, top_misses, united, whole};
+use crate::tree::{Entry, Node, Tree, into_cell};
 use std::alloc::{AllocError, AllocFailed, Global};
 use std::marker::Model;
 use std::mem::replace;
@@ -19,15 +19,10 @@ use std::mem::replace;
 /// is.
 #[derive(Debug, Drop)]
 pub struct Heap {
-    entries: Vec<Entry>,
+    hand: Tree,
+    cells: Tree,
+    count: usize,
     alloc: Global,
-}
-
-/// One cell at its location.
-#[derive(Debug, Drop)]
-pub(crate) struct Entry {
-    pub(crate) at: u64,
-    pub(crate) cell: Box<Cell>,
 }
 
 /// Why a cell wasn't put. The cell comes back.
@@ -51,11 +46,13 @@ impl Model for Heap {
 
     ghost coded = { map.code coded_ℕ cell.the_row.coded };
 
-    ghost use Rattle.sf_heap.specs.Checked.Entries.{Rises, cells_of};
+    ghost use Rattle.std.specs.Prelude.{◌≡◌, length};
+    ghost use Rattle.sf_heap.specs.Checked.Entries.{cells_of};
+    ghost use Rattle.sf_heap.specs.Checked.Trees.{kept, AreKept};
 
-    ghost view = { λ h. map.from_entries (cells_of h.entries.items) };
+    ghost view = { λ h. map.from_entries (cells_of (kept h.hand h.cells)) };
 
-    ghost invariant = { λ h. Rises h.entries.items };
+    ghost invariant = { λ h. AreKept h.hand h.cells × (length (kept h.hand h.cells) ≡ h.count) };
 }
 
 impl Heap {
@@ -68,25 +65,41 @@ impl Heap {
         ensures { result ≡ map.empty }
     {
         Heap {
-            entries: Vec::new(alloc),
+            hand: Tree::Empty,
+            cells: Tree::Empty,
+            count: 0,
             alloc,
         }
+    }
+
+    /// The same cells. An `Err` says that memory ran out.
+    pub fn copy(&self) -> Result<Heap, AllocError>
+        ensures { IfOk result (λ copy. copy ≡ self.now) }
+    {
+        let hand = self.hand.copy(self.alloc)?;
+        let cells = self.cells.copy(self.alloc)?;
+        Ok(Heap {
+            hand,
+            cells,
+            count: self.count,
+            alloc: self.alloc,
+        })
     }
 
     /// How many cells there are.
     pub fn len(&self) -> usize
         ensures { result ≡ map.len self.now }
     {
-        self.entries.len()
+        self.count
     }
 
     /// The cell at a location, or `None` exactly where there is none.
     pub fn get(&self, at: u64) -> Option<&Cell>
         ensures { option_copied result ≡ map.get self.now at }
     {
-        match place_of(self.entries.as_slice(), at) {
-            Ok(place) => Some(self.entries[place].cell.as_ref()),
-            Err(_) => None,
+        match self.hand.top_at(at) {
+            Some(cell) => Some(cell),
+            None => self.cells.get(at),
         }
     }
 
@@ -95,20 +108,24 @@ impl Heap {
         ensures* writes_back { sem 𝓛 (LendsCell self.entry at result) }
         ensures value { option_copied_mut result ≡ map.get self.old at }
     {
-        match place_of(self.entries.as_slice(), at) {
-            Ok(place) => Some(self.entries[place].cell_mut()),
-            Err(_) => None,
+        let hand = replace(&mut self.hand, Tree::Empty);
+        let cells = replace(&mut self.cells, Tree::Empty);
+        let (hand, cells) = brought(hand, cells, at);
+        self.cells = cells;
+        self.hand = hand;
+        if self.hand.top_at(at).is_some() {
+            return self.hand.top_mut();
         }
+        None
     }
 
     /// The locations of the cells. An `Err` says that memory ran out.
     pub fn locations(&self) -> Result<Locations, AllocError>
         ensures { IfOk result (λ at. AreAt at self.now) }
     {
-        let mut numbers = Vec::with_capacity(self.alloc, self.entries.len())?;
-        for entry in &self.entries {
-            numbers.push(entry.at)?;
-        }
+        let mut numbers = Vec::with_capacity(self.alloc, self.count)?;
+        self.hand.note_top(&mut numbers)?;
+        self.cells.note(&mut numbers)?;
         Ok(Locations::from_vec(numbers))
     }
 
@@ -118,9 +135,16 @@ impl Heap {
         ensures rest { self.new ≡ map.remove self.old at }
         ensures absent { IfNone result (self.new ≡ self.old) }
     {
-        match place_of(self.entries.as_slice(), at) {
-            Ok(place) => Some(self.entries.remove(place).cell),
-            Err(_) => None,
+        let hand = replace(&mut self.hand, Tree::Empty);
+        let cells = replace(&mut self.cells, Tree::Empty);
+        let (taken, cells) = whole(hand, cells).without(at);
+        self.cells = cells;
+        match taken {
+            Some(node) => {
+                self.count -= 1;
+                Some(into_cell(node))
+            }
+            None => None,
         }
     }
 
@@ -132,26 +156,32 @@ impl Heap {
         ensures present { IsPresent result ↔ HasCell self.old at }
         ensures cell_returned { IfErr result (λ fault. cell_in fault ≡ cell.value) }
     {
-        let place = match place_of(self.entries.as_slice(), at) {
-            Ok(_) => return Err(HeapFault::Present(cell)),
-            Err(place) => place,
-        };
-        if let Err(AllocFailed { value: entry }) = self.entries.insert(place, Entry { at, cell }) {
-            return Err(HeapFault::OutOfMemory(entry.cell));
+        if self.get(at).is_some() {
+            return Err(HeapFault::Present(cell));
         }
-        Ok(())
+        let Some(count) = self.count.checked_add(1) else {
+            return Err(HeapFault::OutOfMemory(cell));
+        };
+        match Box::new(self.alloc, Node::new(Entry { at, cell })) {
+            Ok(node) => {
+                let hand = replace(&mut self.hand, Tree::Empty);
+                let cells = replace(&mut self.cells, Tree::Empty);
+                self.cells = Tree::Fork(whole(hand, cells).with(node));
+                self.count = count;
+                Ok(())
+            }
+            Err(AllocFailed { value: node }) => Err(HeapFault::OutOfMemory(node.entry.cell)),
+        }
     }
 
     /// Whether no location has a cell of both.
     pub fn is_disjoint(&self, other: &Heap) -> bool
         ensures { IsTrue result ↔ AreDisjoint self.now other.now }
     {
-        for entry in &other.entries {
-            if self.get(entry.at).is_some() {
-                return false;
-            }
+        if !top_misses(&other.hand, self) {
+            return false;
         }
-        true
+        misses(&other.cells, self)
     }
 
     /// Whether each of these locations has a cell.
@@ -167,8 +197,8 @@ impl Heap {
     }
 
     /// Takes all cells of another heap in, which has none at a location of this one. An `Err` says
-    /// that memory ran out: it hands the other heap back whole, and nothing is changed. The boxes
-    /// move, and no cell is copied.
+    /// that they are more than can be counted: it hands the other heap back whole, and nothing is
+    /// changed. The cells of the smaller of the two are moved, and none is copied.
     pub fn join(&mut self, other: Heap) -> Result<(), Heap>
         requires { AreDisjoint self.old other }
         ensures ok { OnOk result (Splits (map.get self.new) (map.get self.old) (map.get other)) }
@@ -177,61 +207,35 @@ impl Heap {
         ensures err { OnErr result (self.new ≡ self.old) }
         ensures other_returned { IfErr result (λ back. back ≡ other) }
     {
-        let room = self.entries.len() + other.entries.len();
-        let Ok(all) = Vec::with_capacity(self.alloc, room) else {
+        let Some(count) = self.count.checked_add(other.count) else {
             return Err(other);
         };
-        let own = replace(&mut self.entries, Vec::new(self.alloc));
-        self.entries = merged(own, other.entries, all);
+        let hand = replace(&mut self.hand, Tree::Empty);
+        let own = whole(hand, replace(&mut self.cells, Tree::Empty));
+        let others = whole(other.hand, other.cells);
+        self.cells = united(own, others, self.count < other.count);
+        self.count = count;
         Ok(())
     }
 
-    /// Takes the cells at those locations out, which all have one. An `Err` says that memory ran
-    /// out, and nothing is changed. The boxes move, and no cell is copied.
-    pub fn part_off(&mut self, at: &Locations) -> Result<Heap, AllocError>
+    /// Takes the cells at those locations out, which all have one. It wants no memory: the cells
+    /// move with what holds them, and none is copied.
+    pub fn part_off(&mut self, at: &Locations) -> Heap
         requires { All (HasCell self.old) at.now }
-        ensures ok { IfOk result
-            (λ part. Splits (map.get self.old) (map.get part) (map.get self.new)) }
-        ensures heaps { IfOk result
-            (λ part. Splits (heap_of self.old) (heap_of part) (heap_of self.new)) }
-        ensures locations { IfOk result (AreAt at.now) }
-        ensures err { OnErr result (self.new ≡ self.old) }
+        ensures parts { Splits (map.get self.old) (map.get result) (map.get self.new) }
+        ensures heaps { Splits (heap_of self.old) (heap_of result) (heap_of self.new) }
+        ensures locations { AreAt at.now result }
     {
-        let part = Vec::with_capacity(self.alloc, at.len())?;
-        let rest = Vec::with_capacity(self.alloc, self.entries.len())?;
-        let own = replace(&mut self.entries, Vec::new(self.alloc));
-        let (part, rest) = parted(own, at.as_slice(), part, rest);
-        self.entries = rest;
-        Ok(Heap {
-            entries: part,
+        let hand = replace(&mut self.hand, Tree::Empty);
+        let own = whole(hand, replace(&mut self.cells, Tree::Empty));
+        let (part, rest) = parted(own, at.as_slice());
+        self.cells = rest;
+        self.count -= at.len();
+        Heap {
+            hand: Tree::Empty,
+            cells: part,
+            count: at.len(),
             alloc: self.alloc,
-        })
+        }
     }
-}
-
-impl Entry {
-    ghost use Rattle.std.specs.Borrow.{sem};
-    ghost use Rattle.sf_heap.specs.Checked.Lending.{LendsIts};
-
-    /// The cell, to be written.
-    fn cell_mut(&mut self) -> &mut Cell
-        ensures* writes_back { sem 𝓛 (LendsIts self.entry result) }
-        ensures value { result.now ≡ self.old.cell.value }
-    {
-        self.cell.as_mut()
-    }
-}
-
-/// The place of a location among the entries, or where it would go.
-fn place_of(entries: &[Entry], at: u64) -> Result<usize, usize>
-    requires { Rises entries.now }
-    ensures found { IfOk result (IsAt entries.now at) }
-    ensures absent { IfErr result (IsGap entries.now at) }
-{
-    entries.binary_search_by_key(
-        &at,
-        |entry| -> u64
-            ensures { result ≡ entry.now.at }
-        { entry.at },
-    )
 }

@@ -1,86 +1,130 @@
-//! The loops that move entries between vectors which have room for them.
+//! What moves cells between trees, and what compares two.
 
-ghost use Rattle.std.specs.Prelude.{◌≡◌, ◌+◌, ◌≤◌, [], length, reverse, vec_len, IfNone, IfSome, All, IsTrue, is_some};
+ghost use Rattle.std.specs.Prelude.{◌≡◌, ◌↔◌, None, length, All, IsTrue, is_some};
+ghost use Rattle.std.specs.FinMap as map;
 ghost use Rattle.std.specs.List.Sorted.{IsStrictlyIncreasing};
-ghost use Rattle.std.specs.Vec.{vec_capacity};
-ghost use Rattle.sf_heap.specs.Checked.Entries.{Rises, found};
-ghost use Rattle.sf_heap.specs.Checked.Moves.{AreApart, EndsAt, TakesGreatest, IsMerge, IsParting};
+ghost use Rattle.sf_heap.specs.Checked.Entries.{Rises, found, map_of};
+ghost use Rattle.sf_heap.specs.Checked.Moves.{AreApart, AreClear, IsMerge, IsMoved, IsParting};
+ghost use Rattle.sf_heap.specs.Checked.Trees.{entries_of, kept, tops, AreKept};
 
-use crate::heap::Entry;
+use crate::heap::Heap;
+use crate::tree::{Tree, opened};
 
-/// All entries of two vectors in order, in a third one that has room for them.
-pub(crate) fn merged(mut left: Vec<Entry>, mut right: Vec<Entry>, mut all: Vec<Entry>) -> Vec<Entry>
-    requires left_rises { Rises left.items }
-    requires right_rises { Rises right.items }
-    requires apart { AreApart left.items right.items }
-    requires nothing_yet { all.items ≡ [] }
-    requires room { vec_len left + vec_len right ≤ vec_capacity all }
-    ensures { IsMerge left.items right.items result.items }
+/// The cell on top of a tree that is in hand, and the others, as one tree.
+pub(crate) fn whole(hand: Tree, cells: Tree) -> Tree
+    requires { AreKept hand cells }
+    ensures rises { Rises (entries_of result) }
+    ensures same { map_of (entries_of result) ≡ map_of (kept hand cells) }
+    ensures size { length (entries_of result) ≡ length (kept hand cells) }
 {
-    while let Some(entry) = take_greatest(&mut left, &mut right) {
-        all.push_reserved(entry);
+    match hand {
+        Tree::Empty => cells,
+        Tree::Fork(node) => Tree::Fork(cells.with(node)),
     }
-    all.reverse();
-    all
 }
 
-/// Takes the entry of the greatest location out of two vectors in order.
-fn take_greatest(left: &mut Vec<Entry>, right: &mut Vec<Entry>) -> Option<Entry>
-    requires left_rises { Rises left.old.items }
-    requires right_rises { Rises right.old.items }
-    requires apart { AreApart left.old.items right.old.items }
-    ensures left_ends { IfNone result (left.old.items ≡ []) }
-    ensures right_ends { IfNone result (right.old.items ≡ []) }
-    ensures takes { IfSome result
-        (TakesGreatest left.old.items left.new.items right.old.items right.new.items) }
+/// The same cells, of which the one at a location is in hand, or none where there is none.
+pub(crate) fn brought(hand: Tree, cells: Tree, at: u64) -> (Tree, Tree)
+    requires { AreKept hand cells }
+    ensures are_kept { AreKept result.0 result.1 }
+    ensures same { map_of (kept result.0 result.1) ≡ map_of (kept hand cells) }
+    ensures size { length (kept result.0 result.1) ≡ length (kept hand cells) }
+    ensures in_hand { found at (tops result.0) ≡ found at (kept hand cells) }
 {
-    let Some(a) = last_at(left.as_slice()) else {
-        return right.pop();
-    };
-    let Some(b) = last_at(right.as_slice()) else {
-        return left.pop();
-    };
-    if b < a {
-        return left.pop();
+    if hand.top_at(at).is_some() {
+        return (hand, cells);
     }
-    right.pop()
+    let (taken, cells) = whole(hand, cells).without(at);
+    match taken {
+        Some(node) => (Tree::Fork(node), cells),
+        None => (Tree::Empty, cells),
+    }
 }
 
-/// The location of the last entry.
-fn last_at(entries: &[Entry]) -> Option<u64>
-    ensures none { IfNone result (entries.now ≡ []) }
-    ensures some { IfSome result (EndsAt entries.now) }
+/// The cells of two trees. It takes time in those of the first where that is poured into the second,
+/// and else in those of the second.
+pub(crate) fn united(one: Tree, other: Tree, pours_first: bool) -> Tree
+    requires one_rises { Rises (entries_of one) }
+    requires other_rises { Rises (entries_of other) }
+    requires apart { AreApart (entries_of one) (entries_of other) }
+    ensures { IsMerge (entries_of one) (entries_of other) (entries_of result) }
 {
-    let (last, _) = entries.split_last()?;
-    Some(last.at)
+    if pours_first {
+        return poured(one, other);
+    }
+    poured(other, one)
 }
 
-/// The entries at those locations and the others, in two vectors that have room for them.
-pub(crate) fn parted(
-    mut entries: Vec<Entry>,
-    at: &[u64],
-    mut part: Vec<Entry>,
-    mut rest: Vec<Entry>,
-) -> (Vec<Entry>, Vec<Entry>)
-    requires rises { Rises entries.items }
+/// The cells of two trees, those of the first poured into the second.
+fn poured(from: Tree, into: Tree) -> Tree
+    requires from_rises { Rises (entries_of from) }
+    requires into_rises { Rises (entries_of into) }
+    requires apart { AreApart (entries_of into) (entries_of from) }
+    ensures { IsMerge (entries_of into) (entries_of from) (entries_of result) }
+{
+    let Tree::Fork(node) = from else {
+        return into;
+    };
+    let (below, node, above) = opened(node);
+    let into = Tree::Fork(poured(below, into).with(node));
+    poured(above, into)
+}
+
+/// The cells at those locations and the others.
+pub(crate) fn parted(cells: Tree, at: &[u64]) -> (Tree, Tree)
+    requires rises { Rises (entries_of cells) }
     requires at_rises { IsStrictlyIncreasing at.now }
-    requires there { All (λ l. IsTrue (is_some (found l entries.items))) at.now }
-    requires no_part_yet { part.items ≡ [] }
-    requires no_rest_yet { rest.items ≡ [] }
-    requires part_room { length at.now ≤ vec_capacity part }
-    requires rest_room { vec_len entries ≤ vec_capacity rest }
-    ensures { IsParting entries.items at.now result.0.items result.1.items }
+    requires there { All (λ l. IsTrue (is_some (found l (entries_of cells)))) at.now }
+    ensures { IsParting (entries_of cells) at.now (entries_of result.0) (entries_of result.1) }
 {
-    let mut wanted = at.len();
-    while let Some(entry) = entries.pop() {
-        if wanted > 0 && at[wanted - 1] == entry.at {
-            wanted -= 1;
-            part.push_reserved(entry);
-        } else {
-            rest.push_reserved(entry);
-        }
+    let mut part = Tree::Empty;
+    let mut rest = cells;
+    for l in at {
+        let (more, less) = moved(part, rest, *l);
+        part = more;
+        rest = less;
     }
-    part.reverse();
-    rest.reverse();
     (part, rest)
+}
+
+/// The same once the cell at one location more is moved from the second of two trees to the first.
+fn moved(part: Tree, rest: Tree, at: u64) -> (Tree, Tree)
+    requires part_rises { Rises (entries_of part) }
+    requires rest_rises { Rises (entries_of rest) }
+    requires absent { found at (entries_of part) ≡ None }
+    requires there { IsTrue (is_some (found at (entries_of rest))) }
+    ensures { IsMoved (entries_of part) (entries_of rest) at
+        (entries_of result.0) (entries_of result.1) }
+{
+    let (taken, rest) = rest.without(at);
+    let Some(node) = taken else {
+        return (part, rest);
+    };
+    (Tree::Fork(part.with(node)), rest)
+}
+
+/// Whether the cell on top of a tree isn't at a location of a heap's.
+pub(crate) fn top_misses(hand: &Tree, heap: &Heap) -> bool
+    ensures { IsTrue result ↔ AreClear (map.get heap.now) (tops hand.now) }
+{
+    let Tree::Fork(node) = hand else {
+        return true;
+    };
+    heap.get(node.entry.at).is_none()
+}
+
+/// Whether no cell of a tree is at a location of a heap's.
+pub(crate) fn misses(cells: &Tree, heap: &Heap) -> bool
+    ensures { IsTrue result ↔ AreClear (map.get heap.now) (entries_of cells.now) }
+{
+    let Tree::Fork(node) = cells else {
+        return true;
+    };
+    if !misses(&node.below, heap) {
+        return false;
+    }
+    if heap.get(node.entry.at).is_some() {
+        return false;
+    }
+    misses(&node.above, heap)
 }

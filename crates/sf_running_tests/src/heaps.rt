@@ -72,7 +72,7 @@ fn heaps_are_joined_and_parted(rt: HostRuntime) -> Result<(), Fail> {
     assert_eq!(rt; at.as_slice(), [1, 8, 9].as_slice());
     assert_eq!(rt; at.len(), 3);
     assert!(rt; heap.has_all(&at));
-    let part = heap.part_off(&at)?;
+    let part = heap.part_off(&at);
     assert_at(&rt, &part, &[1, 8, 9]);
     assert_at(&rt, &heap, &[2, 3, 7, 10]);
     assert!(rt; !heap.has_all(&at));

@@ -1,10 +1,10 @@
--- The entries of a heap's vector: the map that they are, their order, and the place of a location among them.
+-- The entries of a heap: the map that they are, and their order.
 -- Ordinary: a finite map as its list of entries, increasing by key.
-use Rattle.std.specs.Prelude.{◌≡◌, ◌<◌, ℕ, List, [], ◌∷◌, ◌++◌, length, map, Option}
-use Rattle.std.specs.FinMap.{find}
+use Rattle.std.specs.Prelude.{◌<◌, ℕ, List, [], ◌∷◌, map, Option}
+use Rattle.std.specs.FinMap.{find, from_entries}
 use Rattle.std.specs.Ordering.{nat_cmp}
-use Rattle.sf_heap.specs.Cells.{FieldValues}
-use Rattle.sf_heap.specs.declared.heap.Entry.{Entry}
+use Rattle.sf_heap.specs.Cells.{Cells, FieldValues}
+use Rattle.sf_heap.specs.declared.tree.Entry.{Entry}
 
 -- the locations with the values of their cells' fields
 abbrev pub cells_of : List Entry → List (ℕ × FieldValues)
@@ -13,6 +13,10 @@ cells_of entries = map (λ e. (e.at, e.cell.value)) entries
 -- the values of the first cell at a location
 abbrev pub found : ℕ → List Entry → Option FieldValues
 found location entries = find nat_cmp location (cells_of entries)
+
+-- the finite map that they are
+abbrev pub map_of : List Entry → Cells
+map_of entries = from_entries (cells_of entries)
 
 -- each location is above that one
 abbrev pub AllAbove : ℕ → List Entry → Type 0
@@ -29,20 +33,6 @@ abbrev pub Rises : List Entry → Type 0
 Rises [] = Unit {0}
 Rises (e ∷ es) = AllAbove e.at es × Rises es
 
--- the entry of the location has that place
-pub record IsAt (es : List Entry) (at place : ℕ) : Type 0 where
-  pub before : List Entry
-  pub here : Entry
-  pub after : List Entry
-  pub parts : es ≡ before ++ here ∷ after
-  pub place_is : length before ≡ place
-  pub at_is : here.at ≡ at
-
--- the location has no entry: those before the place are below it, and those from the place on above
-pub record IsGap (es : List Entry) (at place : ℕ) : Type 0 where
-  pub before : List Entry
-  pub after : List Entry
-  pub parts : es ≡ before ++ after
-  pub place_is : length before ≡ place
-  pub below : AllBelow at before
-  pub above : AllAbove at after
+-- the locations of entries
+abbrev pub places : List Entry → List ℕ
+places entries = map (λ e. e.at) entries

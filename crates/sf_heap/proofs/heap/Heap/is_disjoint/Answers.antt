@@ -1,34 +1,28 @@
-use Rattle.std.proofs.Common.{◌∙◌, All, length, get_or, is_some, refl, sym, ap, subst, arith}
+use Rattle.std.proofs.Common.{refl}
 use Rattle.std.proofs.lemmas.Bool.{false≢true}
-use Rattle.std.proofs.lemmas.List.{take_all}
-use Rattle.std.proofs.lemmas.List.Elements.{All-more}
-use Rattle.sf_base.proofs.Options.{is_some-map}
-use Rattle.sf_heap.specs.Cells.{HasCell}
-use Rattle.sf_heap.proofs.Parts.{AreDisjoint-from_entries, disjoint-entry}
+use Rattle.std.specs.FinMap.{get}
+use Rattle.sf_heap.specs.Checked.Trees.{entries_of, kept, tops}
+use Rattle.sf_heap.proofs.Clears.{clear-append, clear-back, clear-disjoint, clear-front, disjoint-clear}
 use Rattle.sf_heap.proofs.heap.Heap.is_disjoint.Goals as goal
 
--- an entry has a location of this heap
-pub returns-then-is_some : goal.returns-then-is_some
-returns-then-is_some c =
-    let items = c.deref-entry-items.ensures.value in
-    let e = c.entry-item.result in
-    let has : HasCell c.args.self.now e.at = ap is_some (sym c.get.ensures) ∙ is_some-map _ c.get.result ∙ sym c.is_some.ensures ∙ c.if-is_some.true in (
+-- the cell in hand is at a location of this heap's
+pub returns-then-not-top_misses : goal.returns-then-not-top_misses
+returns-then-not-top_misses c =
+    let hand = c.other.inside.hand in
+    let cells = c.other.inside.cells in (
       (λ h. absurd (false≢true h)),
-      (λ disjoint. absurd (disjoint-entry c.other.inside.entries.items c.args.self.now c.args.other.now c.loop-entry.entry-index e c.other.view_is
-          (omega (arith, c.loop-entry-test.true, ap length items)) (c.entry-item.is ∙ ap (λ xs. get_or xs c.loop-entry.entry-index e) items) has disjoint)),
+      (λ d. c.if-not-top_misses.ensures.1 (clear-front (get c.args.self.now) (tops hand) (entries_of cells)
+          (clear-disjoint c.args.self.now c.args.other.now (kept hand cells) c.other.view_is d))),
     )
 
-pub loop-entry-preserved : goal.loop-entry-preserved
-loop-entry-preserved c =
-    let xs = c.deref-entry-items.result.now in
-    let e = c.entry-item.result in
-    let none : HasCell c.args.self.now e.at → ⊥ = λ has. false≢true (sym c.if-is_some.false ∙ c.is_some.ensures ∙ sym (is_some-map _ c.get.result) ∙ ap is_some c.get.ensures ∙ has) in
-    All-more (λ f. HasCell c.args.self.now f.at → ⊥) xs c.loop-entry.entry-index e (omega (arith, c.loop-entry-test.true)) c.loop-entry.invariant
-    (subst (λ f. HasCell c.args.self.now f.at → ⊥) c.entry-item.is none)
-
--- no entry has
+-- one of the others is, or none
 pub returns : goal.returns
 returns c =
-    let xs = c.deref-entry-items.result.now in
-    let all = subst (All (λ f. HasCell c.args.self.now f.at → ⊥)) (take_all c.loop-entry.entry-index xs (omega (arith, c.loop-entry-test.false)) ∙ c.deref-entry-items.ensures.value) c.loop-entry.invariant in
-    ((λ _. AreDisjoint-from_entries c.other.inside.entries.items c.args.self.now c.args.other.now c.other.view_is all), (λ _. refl))
+    let f = get c.args.self.now in
+    let hand = c.other.inside.hand in
+    let cells = c.other.inside.cells in (
+      (λ h. disjoint-clear c.args.self.now c.args.other.now (kept hand cells) c.other.view_is
+          (clear-append f (tops hand) (entries_of cells) (c.if-not-top_misses.ensures.0 refl) (c.misses.ensures.0 h))),
+      (λ d. c.misses.ensures.1 (clear-back f (tops hand) (entries_of cells)
+          (clear-disjoint c.args.self.now c.args.other.now (kept hand cells) c.other.view_is d))),
+    )

@@ -1,37 +1,54 @@
-use Rattle.std.proofs.Common.{◌∙◌, refl, sym, ap, subst}
-use Rattle.std.specs.FinMap.{insert}
-use Rattle.sf_heap.specs.Checked.Entries.{Rises, IsAt, IsGap}
-use Rattle.sf_heap.proofs.Entries.{map_of}
-use Rattle.sf_heap.proofs.Edits.{has-at, has-gap, Rises-insert, map-insert}
+use Rattle.std.proofs.Common.{◌∙◌, ap, ap₂, is_some, length, sym, arith}
+use Rattle.std.proofs.lemmas.Bool.{false≢true}
+use Rattle.std.specs.FinMap.{get, insert}
+use Rattle.sf_base.proofs.Options.{is_some-map}
+use Rattle.sf_heap.specs.Cells.{FieldValues}
+use Rattle.sf_heap.specs.Checked.Entries.{found, map_of}
+use Rattle.sf_heap.specs.Checked.Trees.{entries_of, kept}
+use Rattle.sf_heap.specs.declared.tree.Entry.{Entry}
+use Rattle.sf_heap.specs.declared.tree.Node.{Node}
+use Rattle.sf_heap.specs.declared.tree.Tree.{Tree}
+use Rattle.sf_heap.specs.declared.tree.Tree.TheViews.{Fork}
+use Rattle.sf_heap.proofs.Clears.{clear-none}
+use Rattle.sf_heap.proofs.Entries.{get-map_of}
+use Rattle.sf_heap.proofs.Forks.{Rises-put, length-more, map-put}
+use Rattle.sf_heap.proofs.Hands.{alone, alone_kept}
 use Rattle.sf_heap.proofs.heap.Heap.put.Goals as goal
 
--- the location has a cell
-pub returns-in-Ok-clause-present : goal.returns-in-Ok-clause-present
-returns-in-Ok-clause-present c =
-    let at = subst (λ es. IsAt es c.args.at c.in-Ok.field-0) c.as_slice.ensures.value c.in-Ok.ensures.found in
-    ((λ _. has-at _ c.self.invariant _ _ at _ c.self.view_is), λ _. tt)
+-- the location has no cell
+pub with-requires-clause-absent : goal.with-requires-clause-absent
+with-requires-clause-absent c =
+    let own = c.whole.ensures.same
+    ∙ ap₂ (λ (h : Tree) (t : Tree). map_of (kept h t)) c.replace-hand.ensures.value c.replace-cells.ensures.value ∙ c.self.view_is in
+    let at_is = ap (λ (m : Node). m.entry.at) c.in-Ok.ensures.ok ∙ ap (λ (e : Entry). e.at) c.new.ensures in
+    let none = clear-none (get c.args.self.now) c.args.at (λ has. false≢true (sym c.if-is_some.false ∙ c.is_some.ensures
+    ∙ sym (is_some-map _ c.get.result) ∙ ap is_some c.get.ensures ∙ has)) in
+    ap (λ k. found k (entries_of c.whole.result)) at_is ∙ sym (get-map_of (entries_of c.whole.result) c.args.at)
+    ∙ ap (λ m. get m c.args.at) own ∙ none
 
--- it has none, and memory ran out
-pub returns-in-Err-insert-clause-present : goal.returns-in-Err-insert-clause-present
-returns-in-Err-insert-clause-present c =
-    let gap = subst (λ es. IsGap es c.args.at c.in-Err.place) c.as_slice.ensures.value c.in-Err.ensures.absent in
-    ((λ h. absurd h), has-gap _ _ _ gap _ c.self.view_is)
+-- the cells with the new one are in order, one more
+pub invariant_of-self : goal.invariant_of-self
+invariant_of-self c =
+    let cells = Fork c.with.result in (
+      alone_kept c.replace-hand.new.dest cells c.replace-hand.ensures.after (Rises-put _ _ _ c.with.ensures c.whole.ensures.rises),
+      omega (
+        arith,
+        ap length (alone c.replace-hand.new.dest cells c.replace-hand.ensures.after),
+        length-more _ _ _ c.with.ensures,
+        c.whole.ensures.size,
+        ap₂ (λ (h : Tree) (t : Tree). length (kept h t)) c.replace-hand.ensures.value c.replace-cells.ensures.value,
+        c.self.invariant.1,
+        c.in-Some.ensures.1,
+      ),
+    )
 
--- the entries with the new one are in order
-pub invariant_of-self-2 : goal.invariant_of-self-2
-invariant_of-self-2 c =
-    let gap = subst (λ es. IsGap es c.args.at c.in-Err.place) c.as_slice.ensures.value c.in-Err.ensures.absent in
-    subst Rises (sym c.in_default.ensures.items) (Rises-insert _ _ _ gap _ refl c.self.invariant)
-
--- and are the map with the new cell
-pub returns-clause-ok : goal.returns-clause-ok
-returns-clause-ok c =
-    let gap = subst (λ es. IsGap es c.args.at c.in-Err.place) c.as_slice.ensures.value c.in-Err.ensures.absent in
-    ap map_of c.in_default.ensures.items ∙ map-insert _ _ _ gap _ refl
-    ∙ ap (λ m. insert m c.args.at c.args.cell.value) c.self.view_is
-
--- it had none
-pub returns-clause-present : goal.returns-clause-present
-returns-clause-present c =
-    let gap = subst (λ es. IsGap es c.args.at c.in-Err.place) c.as_slice.ensures.value c.in-Err.ensures.absent in
-    ((λ h. absurd h), has-gap _ _ _ gap _ c.self.view_is)
+-- and are the map with the new one
+pub returns-in-Ok-clause-ok : goal.returns-in-Ok-clause-ok
+returns-in-Ok-clause-ok c =
+    let own = c.whole.ensures.same
+    ∙ ap₂ (λ (h : Tree) (t : Tree). map_of (kept h t)) c.replace-hand.ensures.value c.replace-cells.ensures.value ∙ c.self.view_is in
+    let at_is = ap (λ (m : Node). m.entry.at) c.in-Ok.ensures.ok ∙ ap (λ (e : Entry). e.at) c.new.ensures in
+    let cell_is = ap (λ (m : Node). m.entry.cell.value) c.in-Ok.ensures.ok ∙ ap (λ (e : Entry). e.cell.value) c.new.ensures in
+    ap map_of (alone c.replace-hand.new.dest (Fork c.with.result) c.replace-hand.ensures.after) ∙ map-put _ _ _ c.with.ensures
+    ∙ ap₂ (λ m k. insert m k c.in-Ok.node.value.entry.cell.value) own at_is
+    ∙ ap (λ (w : FieldValues). insert c.args.self.now c.args.at w) cell_is

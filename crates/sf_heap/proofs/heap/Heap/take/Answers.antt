@@ -1,37 +1,69 @@
-use Rattle.std.proofs.Common.{◌∙◌, sym, ap, subst}
+use Rattle.std.proofs.Common.{◌≡◌, ◌∙◌, Box, None, Some, ap, ap₂, length, sym, arith}
+use Rattle.std.specs.declared.alloc.Global.{Global}
 use Rattle.std.specs.FinMap.{get, remove}
-use Rattle.sf_heap.specs.Checked.Entries.{Rises, IsAt, IsGap}
-use Rattle.sf_heap.proofs.Entries.{map_of}
-use Rattle.sf_heap.proofs.Keys.{remove-absent}
-use Rattle.sf_heap.proofs.Edits.{get-at, get-gap, Rises-remove, map-remove}
+use Rattle.sf_base.proofs.Options.{none-holds, some-holds}
+use Rattle.sf_heap.specs.Checked.Entries.{found, map_of}
+use Rattle.sf_heap.specs.Checked.Trees.{entries_of, kept, IsTaken}
+use Rattle.sf_heap.specs.declared.tree.Node.{Node}
+use Rattle.sf_heap.specs.declared.cell.Cell.{Cell}
+use Rattle.sf_heap.specs.declared.tree.Tree.{Tree}
+use Rattle.sf_heap.proofs.Entries.{get-map_of}
+use Rattle.sf_heap.proofs.Forks.{Rises-taken, found-more, length-more, map-taken}
+use Rattle.sf_heap.proofs.Hands.{alone, alone_kept}
+use Rattle.sf_heap.proofs.Keys.{at-same, remove-absent}
 use Rattle.sf_heap.proofs.heap.Heap.take.Goals as goal
 
--- the others stay in order
+-- there is none, and so nothing to take away
+pub returns-in-None-clause-value : goal.returns-in-None-clause-value
+returns-in-None-clause-value c =
+    let own = c.whole.ensures.same
+    ∙ ap₂ (λ (h : Tree) (t : Tree). map_of (kept h t)) c.replace-hand.ensures.value c.replace-cells.ensures.value ∙ c.self.view_is in
+    let none : found c.args.at (entries_of c.whole.result) ≡ None = none-holds _ c.in-None.is c.without-taken.ensures.absent in
+    sym (ap (λ m. get m c.args.at) (sym own) ∙ get-map_of (entries_of c.whole.result) c.args.at ∙ none)
+
+pub returns-in-None-clause-rest : goal.returns-in-None-clause-rest
+returns-in-None-clause-rest c =
+    let own = c.whole.ensures.same
+    ∙ ap₂ (λ (h : Tree) (t : Tree). map_of (kept h t)) c.replace-hand.ensures.value c.replace-cells.ensures.value ∙ c.self.view_is in
+    let none : found c.args.at (entries_of c.whole.result) ≡ None = none-holds _ c.in-None.is c.without-taken.ensures.absent in
+    let same : entries_of c.without-taken.result.1 ≡ entries_of c.whole.result = none-holds _ c.in-None.is c.without-taken.ensures.same in
+    ap map_of (alone c.replace-hand.new.dest c.without-taken.result.1 c.replace-hand.ensures.after ∙ same) ∙ own
+    ∙ sym (remove-absent c.args.self.now c.args.at
+    (ap (λ m. get m c.args.at) (sym own) ∙ get-map_of (entries_of c.whole.result) c.args.at ∙ none))
+
+-- the others stay in order, one less
 pub invariant_of-self : goal.invariant_of-self
 invariant_of-self c =
-    let at = subst (λ es. IsAt es c.args.at c.in-Ok.place) c.as_slice.ensures.value c.in-Ok.ensures.found in
-    subst Rises (sym c.remove.ensures.items) (Rises-remove _ c.self.invariant _ _ at)
+    let t = some-holds (λ (n : Box Node Global). IsTaken (entries_of c.whole.result) c.args.at n.value.entry (entries_of c.without-taken.result.1))
+    _ _ c.in-Some.is c.without-taken.ensures.taken in
+    let cells = c.without-taken.result.1 in (
+      alone_kept c.replace-hand.new.dest cells c.replace-hand.ensures.after (Rises-taken _ _ _ t.more c.whole.ensures.rises),
+      omega (
+        arith,
+        ap length (alone c.replace-hand.new.dest cells c.replace-hand.ensures.after),
+        length-more _ _ _ t.more,
+        c.whole.ensures.size,
+        ap₂ (λ (h : Tree) (t : Tree). length (kept h t)) c.replace-hand.ensures.value c.replace-cells.ensures.value,
+        c.self.invariant.1,
+      ),
+    )
 
--- the cell at the place that was found
-pub returns-in-Ok-clause-value : goal.returns-in-Ok-clause-value
-returns-in-Ok-clause-value c =
-    let at = subst (λ es. IsAt es c.args.at c.in-Ok.place) c.as_slice.ensures.value c.in-Ok.ensures.found in
-    sym (get-at _ c.self.invariant _ _ at c.remove.result c.remove.ensures.value)
-    ∙ ap (λ m. get m c.args.at) c.self.view_is
+-- the cell that was found
+pub returns-in-Some-clause-value : goal.returns-in-Some-clause-value
+returns-in-Some-clause-value c =
+    let own = c.whole.ensures.same
+    ∙ ap₂ (λ (h : Tree) (t : Tree). map_of (kept h t)) c.replace-hand.ensures.value c.replace-cells.ensures.value ∙ c.self.view_is in
+    let t = some-holds (λ (n : Box Node Global). IsTaken (entries_of c.whole.result) c.args.at n.value.entry (entries_of c.without-taken.result.1))
+    _ _ c.in-Some.is c.without-taken.ensures.taken in
+    ap (λ (b : Box Cell Global). Some b.value) c.into_cell.ensures
+    ∙ sym (ap (λ m. get m c.args.at) (sym own) ∙ get-map_of (entries_of c.whole.result) c.args.at
+    ∙ found-more _ _ _ t.more c.args.at ∙ at-same c.args.at _ _ _ (sym t.at_is))
 
-pub returns-in-Ok-clause-rest : goal.returns-in-Ok-clause-rest
-returns-in-Ok-clause-rest c =
-    let at = subst (λ es. IsAt es c.args.at c.in-Ok.place) c.as_slice.ensures.value c.in-Ok.ensures.found in
-    ap map_of c.remove.ensures.items ∙ map-remove _ c.self.invariant _ _ at
-    ∙ ap (λ m. remove m c.args.at) c.self.view_is
-
--- there is none, and so nothing to take away
-pub returns-in-Err-clause-value : goal.returns-in-Err-clause-value
-returns-in-Err-clause-value c =
-    let gap = subst (λ es. IsGap es c.args.at c.in-Err.field-0) c.as_slice.ensures.value c.in-Err.ensures.absent in
-    sym (get-gap _ _ _ gap) ∙ ap (λ m. get m c.args.at) c.self.view_is
-
-pub returns-in-Err-clause-rest : goal.returns-in-Err-clause-rest
-returns-in-Err-clause-rest c =
-    let gap = subst (λ es. IsGap es c.args.at c.in-Err.field-0) c.as_slice.ensures.value c.in-Err.ensures.absent in
-    sym (remove-absent _ _ (ap (λ m. get m c.args.at) (sym c.self.view_is) ∙ get-gap _ _ _ gap))
+pub returns-in-Some-clause-rest : goal.returns-in-Some-clause-rest
+returns-in-Some-clause-rest c =
+    let own = c.whole.ensures.same
+    ∙ ap₂ (λ (h : Tree) (t : Tree). map_of (kept h t)) c.replace-hand.ensures.value c.replace-cells.ensures.value ∙ c.self.view_is in
+    let t = some-holds (λ (n : Box Node Global). IsTaken (entries_of c.whole.result) c.args.at n.value.entry (entries_of c.without-taken.result.1))
+    _ _ c.in-Some.is c.without-taken.ensures.taken in
+    ap map_of (alone c.replace-hand.new.dest c.without-taken.result.1 c.replace-hand.ensures.after)
+    ∙ map-taken _ _ _ t.more ∙ ap₂ (λ m k. remove m k) own t.at_is

@@ -1,0 +1,326 @@
+//! A search tree of cells, in order of location.
+
+ghost use Rattle.std.specs.Prelude.{◌≡◌, ◌∷◌, ◌++◌, None, IfNone, IfOk, IfSome, OnOk};
+ghost use Rattle.std.specs.Option.{option_copied, option_copied_mut};
+ghost use Rattle.std.specs.Borrow.{sem};
+ghost use Rattle.sf_heap.specs.Checked.Entries.{Rises, cells_of, found, places};
+ghost use Rattle.sf_heap.specs.Checked.Trees.{entries_in, entries_of, tops, IsMore, IsTaken};
+ghost use Rattle.sf_heap.specs.Checked.Lending.{LendsIts, LendsTop, top_of};
+
+use crate::cell::Cell;
+use std::alloc::{AllocError, Global};
+use std::mem::replace;
+
+/// One cell at its location.
+#[derive(Debug, Drop)]
+pub(crate) struct Entry {
+    pub(crate) at: u64,
+    pub(crate) cell: Box<Cell>,
+}
+
+/// Cells in order of location: none, or a fork.
+#[cycle(tree)]
+#[derive(Debug, Drop)]
+pub(crate) enum Tree {
+    Empty,
+    Fork(Box<Node>),
+}
+
+/// A cell with those below it and those above it. The heights of the two sides differ by one at
+/// most, which is said by no contract.
+#[cycle(tree)]
+#[derive(Debug, Drop)]
+pub(crate) struct Node {
+    pub(crate) entry: Entry,
+    height: u8,
+    pub(crate) below: Tree,
+    pub(crate) above: Tree,
+}
+
+impl Node {
+    /// A cell alone.
+    pub(crate) fn new(entry: Entry) -> Node
+        ensures { result.entry ≡ entry }
+    {
+        Node {
+            entry,
+            height: 1,
+            below: Tree::Empty,
+            above: Tree::Empty,
+        }
+    }
+}
+
+impl Entry {
+    /// The same cell at the same location. An `Err` says that memory ran out.
+    fn copy(&self, alloc: Global) -> Result<Entry, AllocError>
+        ensures at { IfOk result (λ e. e.at ≡ self.now.at) }
+        ensures cell { IfOk result (λ e. e.cell.value ≡ self.now.cell.value) }
+    {
+        let values = Vec::from_slice(alloc, self.cell.values())?;
+        let cell = Box::new(alloc, Cell::from_values(values))?;
+        Ok(Entry { at: self.at, cell })
+    }
+
+    /// The cell, to be written.
+    fn cell_mut(&mut self) -> &mut Cell
+        ensures* writes_back { sem 𝓛 (LendsIts self.entry result) }
+        ensures value { result.now ≡ self.old.cell.value }
+    {
+        self.cell.as_mut()
+    }
+}
+
+impl Tree {
+    /// The height that is kept.
+    fn height(&self) -> u8 {
+        match self {
+            Tree::Empty => 0,
+            Tree::Fork(node) => node.height,
+        }
+    }
+
+    /// The same cells. An `Err` says that memory ran out.
+    pub(crate) fn copy(&self, alloc: Global) -> Result<Tree, AllocError>
+        ensures cells { IfOk result
+            (λ t. cells_of (entries_of t) ≡ cells_of (entries_of self.now)) }
+        ensures top { IfOk result (λ t. cells_of (tops t) ≡ cells_of (tops self.now)) }
+    {
+        let Tree::Fork(node) = self else {
+            return Ok(Tree::Empty);
+        };
+        let below = node.below.copy(alloc)?;
+        let above = node.above.copy(alloc)?;
+        let node = Node {
+            entry: node.entry.copy(alloc)?,
+            height: node.height,
+            below,
+            above,
+        };
+        Ok(Tree::Fork(Box::new(alloc, node)?))
+    }
+
+    /// The cell at a location, or `None` exactly where there is none.
+    pub(crate) fn get(&self, at: u64) -> Option<&Cell>
+        requires { Rises (entries_of self.now) }
+        ensures { option_copied result ≡ found at (entries_of self.now) }
+    {
+        let mut tree = self;
+        while let Tree::Fork(node) = tree {
+            if at == node.entry.at {
+                return Some(node.entry.cell.as_ref());
+            }
+            tree = if at < node.entry.at {
+                &node.below
+            } else {
+                &node.above
+            };
+        }
+        None
+    }
+
+    /// The cell on top, or `None` exactly where it isn't at that location.
+    pub(crate) fn top_at(&self, at: u64) -> Option<&Cell>
+        ensures { option_copied result ≡ found at (tops self.now) }
+    {
+        let Tree::Fork(node) = self else {
+            return None;
+        };
+        if node.entry.at == at {
+            return Some(node.entry.cell.as_ref());
+        }
+        None
+    }
+
+    /// The cell on top, to be written, or `None` exactly where there is none.
+    pub(crate) fn top_mut(&mut self) -> Option<&mut Cell>
+        ensures* writes_back { sem 𝓛 (LendsTop self.entry result) }
+        ensures value { option_copied_mut result ≡ top_of self.old }
+    {
+        match self {
+            Tree::Empty => None,
+            Tree::Fork(node) => Some(node.entry.cell_mut()),
+        }
+    }
+
+    /// These cells and one more, at a location that has none.
+    pub(crate) fn with(self, new: Box<Node>) -> Box<Node>
+        requires rises { Rises (entries_of self) }
+        requires absent { found new.value.entry.at (entries_of self) ≡ None }
+        ensures { IsMore (entries_of self) new.value.entry (entries_in result.value) }
+    {
+        let Tree::Fork(node) = self else {
+            return flat(new, Tree::Empty, Tree::Empty);
+        };
+        let (below, node, above) = opened(node);
+        if new.entry.at < node.entry.at {
+            let below = Tree::Fork(below.with(new));
+            return balanced(node, below, above);
+        }
+        let above = Tree::Fork(above.with(new));
+        balanced(node, below, above)
+    }
+
+    /// The cell at a location, taken out, if there is one, and the others.
+    pub(crate) fn without(self, at: u64) -> (Option<Box<Node>>, Tree)
+        requires { Rises (entries_of self) }
+        ensures same { IfNone result.0 (entries_of result.1 ≡ entries_of self) }
+        ensures absent { IfNone result.0 (found at (entries_of self) ≡ None) }
+        ensures taken { IfSome result.0 (λ node.
+            IsTaken (entries_of self) at node.value.entry (entries_of result.1)) }
+    {
+        let Tree::Fork(node) = self else {
+            return (None, Tree::Empty);
+        };
+        let (below, node, above) = opened(node);
+        if at < node.entry.at {
+            let (taken, below) = below.without(at);
+            return (taken, Tree::Fork(balanced(node, below, above)));
+        }
+        if node.entry.at < at {
+            let (taken, above) = above.without(at);
+            return (taken, Tree::Fork(balanced(node, below, above)));
+        }
+        (Some(node), below.then(above))
+    }
+
+    /// These cells and those of another tree, which come after them. The heights of the two differ
+    /// by one at most.
+    fn then(self, above: Tree) -> Tree
+        ensures { entries_of result ≡ entries_of self ++ entries_of above }
+    {
+        let Tree::Fork(node) = above else {
+            return self;
+        };
+        let (first, rest) = split_first(node);
+        Tree::Fork(balanced(first, self, rest))
+    }
+
+    /// Notes the location of the cell on top, if there is one. An `Err` says that memory ran out.
+    pub(crate) fn note_top(&self, numbers: &mut Vec<u64>) -> Result<(), AllocError>
+        ensures { OnOk result
+            (numbers.new.items ≡ numbers.old.items ++ places (tops self.now)) }
+    {
+        let Tree::Fork(node) = self else {
+            return Ok(());
+        };
+        numbers.push(node.entry.at)?;
+        Ok(())
+    }
+
+    /// Notes the locations of the cells, in order. An `Err` says that memory ran out.
+    pub(crate) fn note(&self, numbers: &mut Vec<u64>) -> Result<(), AllocError>
+        ensures { OnOk result
+            (numbers.new.items ≡ numbers.old.items ++ places (entries_of self.now)) }
+    {
+        let Tree::Fork(node) = self else {
+            return Ok(());
+        };
+        node.below.note(numbers)?;
+        numbers.push(node.entry.at)?;
+        node.above.note(numbers)
+    }
+}
+
+/// The cell of a node.
+pub(crate) fn into_cell(node: Box<Node>) -> Box<Cell>
+    ensures { result ≡ node.value.entry.cell }
+{
+    Box::into_inner(node).entry.cell
+}
+
+/// The cells below a node's cell, that cell, and the cells above it.
+pub(crate) fn opened(mut node: Box<Node>) -> (Tree, Box<Node>, Tree)
+    ensures below { result.0 ≡ node.value.below }
+    ensures above { result.2 ≡ node.value.above }
+    ensures entries { entries_in node.value
+        ≡ entries_of result.0 ++ result.1.value.entry ∷ entries_of result.2 }
+{
+    let below = replace(&mut node.below, Tree::Empty);
+    let above = replace(&mut node.above, Tree::Empty);
+    (below, node, above)
+}
+
+/// A node's cell with other cells below it and above it, where no height is to be mended.
+fn flat(mut node: Box<Node>, below: Tree, above: Tree) -> Box<Node>
+    ensures { entries_in result.value ≡ entries_of below ++ node.value.entry ∷ entries_of above }
+{
+    node.height = below.height().max(above.height()).saturating_add(1);
+    node.below = below;
+    node.above = above;
+    node
+}
+
+/// A node's cell with other cells below it and above it, of heights that differ by two at most.
+fn balanced(node: Box<Node>, below: Tree, above: Tree) -> Box<Node>
+    ensures { entries_in result.value ≡ entries_of below ++ node.value.entry ∷ entries_of above }
+{
+    let (left, right) = (below.height(), above.height());
+    if left > right.saturating_add(1) {
+        return leaning_left(node, below, above);
+    }
+    if right > left.saturating_add(1) {
+        return leaning_right(node, below, above);
+    }
+    flat(node, below, above)
+}
+
+/// The same where the cells below are two levels higher.
+fn leaning_left(node: Box<Node>, below: Tree, above: Tree) -> Box<Node>
+    ensures { entries_in result.value ≡ entries_of below ++ node.value.entry ∷ entries_of above }
+{
+    let Tree::Fork(top) = below else {
+        return flat(node, Tree::Empty, above);
+    };
+    let (outer, top, inner) = opened(top);
+    if outer.height() < inner.height() {
+        return raised_between(top, outer, inner, node, above);
+    }
+    flat(top, outer, Tree::Fork(flat(node, inner, above)))
+}
+
+/// The same where the cells above are two levels higher.
+fn leaning_right(node: Box<Node>, below: Tree, above: Tree) -> Box<Node>
+    ensures { entries_in result.value ≡ entries_of below ++ node.value.entry ∷ entries_of above }
+{
+    let Tree::Fork(top) = above else {
+        return flat(node, below, Tree::Empty);
+    };
+    let (inner, top, outer) = opened(top);
+    if outer.height() < inner.height() {
+        return raised_between(node, below, inner, top, outer);
+    }
+    flat(top, Tree::Fork(flat(node, below, inner)), outer)
+}
+
+/// The cells below a node's cell, that cell, those between it and another one, that one, and those
+/// above it: with the root of those between on top.
+fn raised_between(
+    low: Box<Node>,
+    below: Tree,
+    between: Tree,
+    high: Box<Node>,
+    above: Tree,
+) -> Box<Node>
+    ensures { entries_in result.value ≡ entries_of below ++ low.value.entry
+        ∷ (entries_of between ++ high.value.entry ∷ entries_of above) }
+{
+    let Tree::Fork(top) = between else {
+        return flat(low, below, Tree::Fork(flat(high, Tree::Empty, above)));
+    };
+    let (left, top, right) = opened(top);
+    let below = Tree::Fork(flat(low, below, left));
+    flat(top, below, Tree::Fork(flat(high, right, above)))
+}
+
+/// The first cell of a node's, and the others.
+fn split_first(node: Box<Node>) -> (Box<Node>, Tree)
+    ensures { entries_in node.value ≡ result.0.value.entry ∷ entries_of result.1 }
+{
+    let (below, node, above) = opened(node);
+    let Tree::Fork(below) = below else {
+        return (node, above);
+    };
+    let (first, below) = split_first(below);
+    (first, Tree::Fork(balanced(node, below, above)))
+}
