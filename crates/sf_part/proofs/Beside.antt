@@ -119,7 +119,7 @@ spent-unused ev olds news c after to spent once unused stays n h =
     record { used = adds-other n ev.number c.used other u.used; heap = k.0; store = k.1 }
 
 -- what is taken is the first
-takes-next : (n : ℕ) (us rest : List ℕ) → TakesNext n us rest → us ≡ n ∷ rest
+pub takes-next : (n : ℕ) (us rest : List ℕ) → TakesNext n us rest → us ≡ n ∷ rest
 takes-next n [] rest t = absurd t
 takes-next n (u ∷ us) rest (e, h) = ap₂ (λ x xs. x ∷ xs) (sym e) (sym h)
 

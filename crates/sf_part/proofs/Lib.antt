@@ -14,4 +14,5 @@ pub mod Forks
 pub mod Numbers
 pub mod Firsts
 pub mod Times
+pub mod Worked
 pub mod Law

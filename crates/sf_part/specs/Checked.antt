@@ -1,4 +1,5 @@
--- What is checked of the events of parts: the law, case by case, and what clocks and logs keep.
--- One module for each.
+-- What is checked of the events of parts: the law, case by case, what clocks and logs keep, and
+-- worked examples.
 pub mod Laws
 pub mod LawsOfTime
+pub mod Examples

@@ -3,7 +3,9 @@
 //!
 //! - `laws`: the law of parts.
 //! - `time`: clocks, stamps and logs.
+//! - `examples`: one event of each kind, and what there isn't.
 #![tactic(auto)]
 
+pub mod examples;
 pub mod laws;
 pub mod time;
