@@ -404,3 +404,7 @@ pub record Leaves (d : Setting) (g : Goal) (tag : Tag) (left : List Goal) : Type
   pub rule : Rule d g.state g.todo tag left
   pub numbers : has_numbers g.state ≡ true
   pub few : needed d g.state tag g.todo < TOO_MANY
+
+-- no rule of the tag is there
+abbrev pub HasNoRule : Setting → Goal → Tag → Type 0
+HasNoRule d g tag = (left : List Goal) → ¬ Leaves d g tag left
