@@ -11,6 +11,7 @@ pub mod CommandLaws
 pub mod BranchLaws
 pub mod ConjunctLaws
 pub mod RowInversion
+pub mod RuleLaws
 pub mod Settings
 mod OwnTerms
 pub mod Fits

@@ -8,6 +8,7 @@ pub mod ExamplesOfInit
 pub mod Front
 pub mod LawsOfCommands
 pub mod LawsOfConjuncts
+pub mod LawsOfRules
 pub mod LawsOfSettings
 pub mod LawsOfShape
 pub mod Lemmas

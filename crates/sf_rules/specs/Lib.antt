@@ -5,4 +5,5 @@ pub mod Setting
 pub mod Shape
 pub mod Words
 pub mod Rows
+pub mod Rules
 pub mod Checked

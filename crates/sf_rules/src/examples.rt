@@ -1,10 +1,11 @@
-//! Examples of rows of the whole table, one or more for each tag. Each function does nothing; its
+//! Examples of rules, one or more for each tag, and where the rule has a condition a goal at which
+//! that alone fails. Each function does nothing; its
 //! contract is the result.
 
-ghost use Rattle.sf_rules.specs.Checked.Examples.{AssignedVariablesHaveTheTerm, DecidedBranchesAreLeft, DisposedCellsGo, EmptyListsGo, ListsFromNilAreEmpty, LookedUpFieldsAreKnown, MutatedFieldsHaveTheTerm, NewCellsAreFresh, NoCellIsAtNil, SplitReplacesTheGreater, UnrolledPartsHaveACell};
+ghost use Rattle.sf_rules.specs.Checked.Examples.{AssignedVariablesHaveTheTerm, DecidedBranchesAreLeft, DisposedCellsGo, EmptyListsGo, ListsFromNilAreEmpty, LookedUpFieldsAreKnown, MutatedFieldsHaveTheTerm, NewCellsAreFresh, NoCellIsAtNil, NumbersDontRunOut, SplitReplacesTheGreater, UnrolledPartsHaveACell};
 ghost use Rattle.sf_rules.specs.Checked.ExamplesOfBodies.{BodiesEndWithTheInvariant, CallsLeaveThreeItems, ForksLeaveFiveItems, GivenIsGone, LoopsBeginWithTheInvariant, LoopsGiveNoTerms, LoopsGoOnceAround, NothingIsLeftAtTheEnd, RegionsBeginWithTheInvariant, RegionsEndWithTheInvariant, ReturnsShowThePostcondition};
 ghost use Rattle.sf_rules.specs.Checked.ExamplesOfInit.{HoldersBeginWithThePrecondition, InitBeginsWithNil, InitShowsEachInvariant};
-ghost use Rattle.sf_rules.specs.Checked.ExamplesOfConjuncts.{AddedCellsNameTheirFields, AddedTestsAreKnown, BoundExistentialsHaveTheTerm, ChosenBranchesTakeTheirPlace, EmptyPartsNeedNothing, ExactPartsAreHandedOver, HeadGoesOn, JoinGoesOn, KnownTermsAreApart, NodeGoesOn, OneTermIsTheSame, WantedCellsAreHandedOver};
+ghost use Rattle.sf_rules.specs.Checked.ExamplesOfConjuncts.{AddedCellsNameTheirFields, AddedTestsAreKnown, BoundExistentialsHaveTheTerm, ChoicesAreNotAdded, ChosenBranchesTakeTheirPlace, EmptyPartsNeedNothing, ExactPartsAreHandedOver, HeadGoesOn, JoinGoesOn, KnownTermsAreApart, NodeGoesOn, OneTermIsTheSame, WantedCellsAreHandedOver};
 
 /// A state with a cell at nil is absurd.
 #[tactic(auto, using(crate::proofs::SmallRows::no_cell_is_at_nil))]
@@ -226,4 +227,16 @@ pub fn join_goes_on()
 #[tactic(auto, using(crate::proofs::SmallRows::node_goes_on))]
 pub fn node_goes_on()
     ensures { NodeGoesOn }
+{}
+
+/// A choice is no conjunct to add.
+#[tactic(auto, using(crate::proofs::SmallRows::choices_are_not_added))]
+pub fn choices_are_not_added()
+    ensures { ChoicesAreNotAdded }
+{}
+
+/// No rule applies where numbers could run out.
+#[tactic(auto, using(crate::proofs::SmallRows::numbers_dont_run_out))]
+pub fn numbers_dont_run_out()
+    ensures { NumbersDontRunOut }
 {}

@@ -1,10 +1,12 @@
-//! What is in front of each row of the table, what the rows of commands and of conjuncts do to what
-//! a goal stands for, and the shape that all goals of a program have. Each function is a law:
-//! calling it gives its fact to the caller's proof, and does nothing.
+//! That the table as rules and as a function say the same, what is in front of each of its rows,
+//! what the rows of commands and of conjuncts do to what a goal stands for, and the shape that all
+//! goals of a program have. Each function is a law: calling it gives its fact to the caller's proof,
+//! and does nothing.
 
 ghost use Rattle.sf_rules.specs.Checked.LawsOfSettings.{ArrangedHasSetting, SettingExists, SettingIsUnique};
 ghost use Rattle.sf_rules.specs.Checked.LawsOfShape.{FirstGoalsAreShaped, FirstGoalsAreSmall, GoalsAreShaped, RowsKeepShape};
 ghost use Rattle.sf_rules.specs.Checked.RowCases.{RowsHaveCases};
+ghost use Rattle.sf_rules.specs.Checked.LawsOfRules.{RowsAreRules, RulesAreRows};
 ghost use Rattle.sf_rules.specs.Checked.LawsOfConjuncts.{AssumeKeepsGoals, AssumedBranchKeepsGoals, ShownBranchLeavesRest, SubtractionLeavesRest};
 ghost use Rattle.sf_rules.specs.Checked.LawsOfCommands.{AssignFollowsEvent, DisposeFollowsEvent, ElseFollowsTest, LookFollowsEvent, MutateFollowsEvent, NewFollowsEvent, ThenFollowsTest};
 
@@ -26,6 +28,19 @@ use sf_produce::laws::add_keeps_goals;
 #[tactic(auto, using(crate::proofs::RowInversion::rows_have_cases))]
 pub fn rows_have_cases()
     ensures { RowsHaveCases }
+{}
+
+/// By each rule the table, as the function that the code computes, leaves the goals that the rule
+/// says.
+#[tactic(auto, using(crate::proofs::RuleLaws::rules_are_rows))]
+pub fn rules_are_rows()
+    ensures { RulesAreRows }
+{}
+
+/// What the function leaves of a goal is left by a rule.
+#[tactic(auto, using(crate::proofs::RuleLaws::rows_are_rules))]
+pub fn rows_are_rules()
+    ensures { RowsAreRules }
 {}
 
 /// After an assignment the variable has the value of the expression.

@@ -1,6 +1,6 @@
--- Examples of the rows of loops, calls, regions and ends on small goals.
+-- Examples of the rules of loops, calls, regions and ends on small goals.
 -- The goals are in the manner of Berdine, Calcagno, O'Hearn, "Smallfoot" (2005).
-use Rattle.std.specs.Prelude.{◌≡◌, [], ◌∷◌, Some, None, codes}
+use Rattle.std.specs.Prelude.{◌∷◌, codes, []}
 use Rattle.sf_base.specs.declared.ids.Var.{Var}
 use Rattle.sf_base.specs.declared.ids.Var.TheVariants.{Own, Shared}
 use Rattle.sf_core.specs.declared.assertion.Operand.TheVariants.{Known}
@@ -19,7 +19,7 @@ use Rattle.sf_sym.specs.Checked.Examples.{state_with}
 use Rattle.sf_sym.specs.Goal.{Item, run, add, take, gave, head, again, exit, return, end}
 use Rattle.sf_sym.specs.State.{State}
 use Rattle.sf_rules.specs.Checked.Examples.{before, changing_x, ends, goal_at, only, two_variables}
-use Rattle.sf_rules.specs.Rows.Whole.{row}
+use Rattle.sf_rules.specs.Rules.{HasNoRule, Leaves}
 use Rattle.sf_rules.specs.Setting.{Setting}
 
 -- to show and to assume these conjuncts, which have no existentials
@@ -52,7 +52,9 @@ v_value = Variable (record { var = v; place = place })
 abbrev pub nil_at : Expr → Assertion
 nil_at e = record {
   names = [];
-  level = level (record { first = 0; count = 0 }) (also (holds place (Equal (Known e) (Known ENil))) none);
+  level =
+      level (record { first = 0; count = 0 })
+      (also (holds place (Equal (Known e) (Known ENil))) none);
 }
 
 -- f(x;) has a cell at x before, and x is nil after it
@@ -81,54 +83,75 @@ three_variables = record (state_with []) { vars = (Own 0, Sym 0) ∷ (Own 1, Sym
 
 -- f(x;) and g(y)
 abbrev pub calls_f : Call
-calls_f = record { callee = record { 0 = 0 }; place = place; references = at_own 0 ∷ []; values = [] }
+calls_f =
+    record { callee = record { 0 = 0 }; place = place; references = at_own 0 ∷ []; values = [] }
 
 abbrev pub calls_g : Call
-calls_g = record { callee = record { 0 = 1 }; place = place; references = []; values = own_one 1 ∷ [] }
+calls_g =
+    record { callee = record { 0 = 1 }; place = place; references = []; values = own_one 1 ∷ [] }
 
--- call: what g asks of y is due, then v is unknown, and what g leaves of it is assumed. The same of f, of x
+-- a call of a procedure that isn't there
+abbrev pub calls_nobody : Call
+calls_nobody = record calls_g { callee = record { 0 = 2 } }
+
+-- call: what g asks of y is due, then v is unknown, and what g leaves of it is assumed. The same of
+-- f, of x. A procedure that isn't there isn't called
 unfoldable pub CallsLeaveThreeItems : Type 0
 CallsLeaveThreeItems =
-    (row small (before three_variables (call place calls_g)) t.Call
-    ≡ Some (goal_at (record three_variables { next_sym = 3 })
-    (shows (same (Sym 1) Nil) ∷ gave place ((v, Sym 2) ∷ []) [] ∷ assumes (cell_at (Sym 2)) ∷ ends) ∷ []))
-    × (row small (before three_variables (call place calls_f)) t.Call
-    ≡ Some (goal_at (record three_variables { next_sym = 3 })
-    (shows (cell_at (Sym 0)) ∷ gave place ((Own 0, Sym 2) ∷ []) [] ∷ assumes (same (Sym 2) Nil) ∷ ends) ∷ []))
+    (Leaves small (before three_variables (call place calls_g)) t.Call
+    (goal_at (record three_variables { next_sym = 3 })
+    (shows (same (Sym 1) Nil) ∷ gave place ((v, Sym 2) ∷ []) [] ∷ assumes (cell_at (Sym 2)) ∷ ends)
+    ∷ []))
+    × (Leaves small (before three_variables (call place calls_f)) t.Call
+    (goal_at (record three_variables { next_sym = 3 })
+    (shows (cell_at (Sym 0)) ∷ gave place ((Own 0, Sym 2) ∷ []) [] ∷ assumes (same (Sym 2) Nil)
+    ∷ ends) ∷ []))
+    × (HasNoRule small (before three_variables (call place calls_nobody)) t.Call)
 
--- fork: what both ask is due, then x and v are unknown, and what each leaves is assumed
+-- fork: what both ask is due, then x and v are unknown, and what each leaves is assumed. Both are
+-- there
 unfoldable pub ForksLeaveFiveItems : Type 0
 ForksLeaveFiveItems =
-    row small (before three_variables (fork place calls_f calls_g)) t.Fork
-    ≡ Some (goal_at (record three_variables { next_sym = 4 })
-    (shows (cell_at (Sym 0)) ∷ shows (same (Sym 1) Nil) ∷ gave place ((Own 0, Sym 2) ∷ (v, Sym 3) ∷ []) []
-    ∷ assumes (same (Sym 2) Nil) ∷ assumes (cell_at (Sym 3)) ∷ ends) ∷ [])
+    (Leaves small (before three_variables (fork place calls_f calls_g)) t.Fork
+    (goal_at (record three_variables { next_sym = 4 })
+    (shows (cell_at (Sym 0)) ∷ shows (same (Sym 1) Nil)
+    ∷ gave place ((Own 0, Sym 2) ∷ (v, Sym 3) ∷ []) []
+    ∷ assumes (same (Sym 2) Nil) ∷ assumes (cell_at (Sym 3)) ∷ ends) ∷ []))
+    × (HasNoRule small (before three_variables (fork place calls_nobody calls_g)) t.Fork)
+    × (HasNoRule small (before three_variables (fork place calls_f calls_nobody)) t.Fork)
 
 -- give: what was taken is gone, x has another term, and v has none
 unfoldable pub GivenIsGone : Type 0
 GivenIsGone = (d : Setting)
-    → row d (goal_at (record three_variables { taken = only (Ls (Sym 1) Nil) })
+    → Leaves d (goal_at (record three_variables { taken = only (Ls (Sym 1) Nil) })
     (gave place ((Own 0, Sym 1) ∷ []) (v ∷ []) ∷ ends)) t.Give
-    ≡ Some (goal_at (record three_variables { vars = (Own 0, Sym 1) ∷ (Own 1, Sym 1) ∷ [] }) ends ∷ [])
+    (goal_at (record three_variables { vars = (Own 0, Sym 1) ∷ (Own 1, Sym 1) ∷ [] }) ends ∷ [])
 
--- enter: v is unknown, the resource's invariant and the condition are assumed, then come the body and the region's end
+-- enter: v is unknown, the resource's invariant and the condition are assumed, then come the body
+-- and the region's end. A resource that isn't there isn't entered
 unfoldable pub RegionsBeginWithTheInvariant : Type 0
 RegionsBeginWithTheInvariant =
-    row small (before (two_variables []) (with place lock (Differ v_value ENil) changing_x)) t.Enter
-    ≡ Some (goal_at (record (two_variables []) {
+    (Leaves small
+    (before (two_variables []) (with place lock (Differ v_value ENil) changing_x)) t.Enter
+    (goal_at (record (two_variables []) {
       vars = (Own 0, Sym 0) ∷ (Own 1, Sym 1) ∷ (v, Sym 2) ∷ [];
       next_sym = 3;
     })
     (assumes (cell_at (Sym 2)) ∷ assumes (other (Sym 2) Nil) ∷ run (assign place (at_own 0) ENil)
-    ∷ exit place lock ∷ ends) ∷ [])
+    ∷ exit place lock ∷ ends) ∷ []))
+    × (HasNoRule small
+    (before (two_variables []) (with place (record { 0 = 1 }) (Differ v_value ENil) changing_x))
+    t.Enter)
 
--- exit: the invariant is due of the value that v has, and then v goes
+-- exit: the invariant is due of the value that v has, and then v goes; a resource that isn't there
+-- isn't left
 unfoldable pub RegionsEndWithTheInvariant : Type 0
 RegionsEndWithTheInvariant =
-    row small (goal_at (record (two_variables []) { vars = (Own 0, Sym 0) ∷ (v, Sym 1) ∷ [] })
+    (Leaves small (goal_at (record (two_variables []) { vars = (Own 0, Sym 0) ∷ (v, Sym 1) ∷ [] })
     (exit place lock ∷ ends)) t.Exit
-    ≡ Some (goal_at (record (two_variables []) { vars = (Own 0, Sym 0) ∷ (v, Sym 1) ∷ [] })
-    (shows (cell_at (Sym 1)) ∷ gave place [] (v ∷ []) ∷ ends) ∷ [])
+    (goal_at (record (two_variables []) { vars = (Own 0, Sym 0) ∷ (v, Sym 1) ∷ [] })
+    (shows (cell_at (Sym 1)) ∷ gave place [] (v ∷ []) ∷ ends) ∷ []))
+    × (HasNoRule small (goal_at (two_variables []) (exit place (record { 0 = 1 }) ∷ ends)) t.Exit)
 
 -- while (x != nil) [x|->] { x = nil; }
 abbrev pub not_nil : Test Expr
@@ -137,8 +160,9 @@ not_nil = Differ (own_one 0) ENil
 -- loop: the invariant is due, and then the loop is at its head
 unfoldable pub LoopsBeginWithTheInvariant : Type 0
 LoopsBeginWithTheInvariant =
-    row small (before (two_variables []) (while place not_nil one_cell changing_x)) t.Loop
-    ≡ Some (goal_at (two_variables []) (shows (cell_at (Sym 0)) ∷ head place not_nil one_cell changing_x ∷ ends) ∷ [])
+    Leaves small (before (two_variables []) (while place not_nil one_cell changing_x)) t.Loop
+    (goal_at (two_variables [])
+    (shows (cell_at (Sym 0)) ∷ head place not_nil one_cell changing_x ∷ ends) ∷ [])
 
 -- the state after that loop's invariant was handed over and x became unknown
 abbrev pub around_now : State
@@ -147,13 +171,16 @@ around_now = record (two_variables (only (Ls (Sym 1) Nil))) {
   next_sym = 3;
 }
 
--- around: first the body, from the invariant alone and where x isn't nil; second what comes after the loop, from the
--- invariant beside what was kept and where x is nil. What was handed over is gone in both
+-- around: first the body, from the invariant alone and where x isn't nil; second what comes after
+-- the loop, from the invariant beside what was kept and where x is nil. What was handed over is
+-- gone in both
 unfoldable pub LoopsGoOnceAround : Type 0
 LoopsGoOnceAround =
-    row small (goal_at (record (two_variables (only (Ls (Sym 1) Nil))) { taken = only (Points (Sym 0) []) })
+    Leaves small
+    (goal_at
+    (record (two_variables (only (Ls (Sym 1) Nil))) { taken = only (Points (Sym 0) []) })
     (head place not_nil one_cell changing_x ∷ ends)) t.Around
-    ≡ Some (goal_at (record around_now { atoms = [] })
+    (goal_at (record around_now { atoms = [] })
     (assumes (cell_at (Sym 2)) ∷ assumes (other (Sym 2) Nil) ∷ run (assign place (at_own 0) ENil)
     ∷ again place one_cell ∷ [])
     ∷ goal_at around_now (assumes (cell_at (Sym 2)) ∷ assumes (same (Sym 2) Nil) ∷ ends)
@@ -161,32 +188,40 @@ LoopsGoOnceAround =
 
 -- with r when (true) v = nil, where v is a variable of r
 abbrev pub region_changing_v : Command
-region_changing_v = with place lock True (then (assign place (record { var = v; place = place }) ENil) done)
+region_changing_v =
+    with place lock True (then (assign place (record { var = v; place = place }) ENil) done)
 
--- around: a loop `while (true) [emp] { with r when (true) v = nil; }`. Outside of the region v has no
--- term, and the loop gives it none, so that the next symbol is the one that it was
+-- around: a loop `while (true) [emp] { with r when (true) v = nil; }`. Outside of the region v has
+-- no term, and the loop gives it none, so that the next symbol is the one that it was
 unfoldable pub LoopsGiveNoTerms : Type 0
 LoopsGiveNoTerms =
-    row small
-    (goal_at (state_with (only (Ls (Sym 1) Nil))) (head place True emp (then region_changing_v done) ∷ ends)) t.Around
-    ≡ Some (goal_at (state_with []) (run region_changing_v ∷ again place emp ∷ [])
+    Leaves small
+    (goal_at (state_with (only (Ls (Sym 1) Nil)))
+    (head place True emp (then region_changing_v done) ∷ ends)) t.Around
+    (goal_at (state_with []) (run region_changing_v ∷ again place emp ∷ [])
     ∷ goal_at (state_with (only (Ls (Sym 1) Nil))) (assumes (other Nil Nil) ∷ ends)
     ∷ [])
 
--- again: the invariant is due of the value that x has, and nothing may be left; whatever comes then isn't done
+-- again: the invariant is due of the value that x has, and nothing may be left; whatever comes then
+-- isn't done
 unfoldable pub BodiesEndWithTheInvariant : Type 0
 BodiesEndWithTheInvariant =
-    row small (goal_at (two_variables []) (again place one_cell ∷ run (assign place (at_own 0) ENil) ∷ ends)) t.Again
-    ≡ Some (goal_at (two_variables []) (shows (cell_at (Sym 0)) ∷ end place ∷ []) ∷ [])
+    Leaves small
+    (goal_at (two_variables [])
+    (again place one_cell ∷ run (assign place (at_own 0) ENil) ∷ ends)) t.Again
+    (goal_at (two_variables []) (shows (cell_at (Sym 0)) ∷ end place ∷ []) ∷ [])
 
 -- return: the same of what the procedure owes, which is its postcondition
 unfoldable pub ReturnsShowThePostcondition : Type 0
 ReturnsShowThePostcondition =
-    row small (goal_at (two_variables []) (return place (one_cell ∷ []) ∷ run (assign place (at_own 0) ENil) ∷ ends)) t.Return
-    ≡ Some (goal_at (two_variables []) (shows (cell_at (Sym 0)) ∷ end place ∷ []) ∷ [])
+    Leaves small
+    (goal_at (two_variables [])
+    (return place (one_cell ∷ []) ∷ run (assign place (at_own 0) ENil) ∷ ends)) t.Return
+    (goal_at (two_variables []) (shows (cell_at (Sym 0)) ∷ end place ∷ []) ∷ [])
 
--- end: nothing is left to prove where there is no atom, and where there is one, there is no such row
+-- end: nothing is left to prove where there is no atom, and where there is one, there is no such
+-- rule
 unfoldable pub NothingIsLeftAtTheEnd : Type 0
 NothingIsLeftAtTheEnd = (d : Setting)
-    → (row d (goal_at (state_with []) ends) t.End ≡ Some [])
-    × (row d (goal_at (state_with (only (Ls (Sym 1) Nil))) ends) t.End ≡ None)
+    → (Leaves d (goal_at (state_with []) ends) t.End [])
+    × (HasNoRule d (goal_at (state_with (only (Ls (Sym 1) Nil))) ends) t.End)

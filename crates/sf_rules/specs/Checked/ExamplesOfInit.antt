@@ -1,7 +1,7 @@
--- Examples of the procedure that sets the resources up, beside one that holds a resource: with what the proof of each
--- begins, and what is due at its end.
+-- Examples of the procedure that sets the resources up, beside one that holds a resource: with what
+-- the proof of each begins, and what is due at its end.
 -- The goals are in the manner of Berdine, Calcagno, O'Hearn, "Smallfoot" (2005).
-use Rattle.std.specs.Prelude.{◌≡◌, ℕ, List, [], ◌∷◌, Some, codes}
+use Rattle.std.specs.Prelude.{◌≡◌, ℕ, List, [], ◌∷◌, codes}
 use Rattle.sf_base.specs.declared.ids.ResId.{ResId}
 use Rattle.sf_base.specs.declared.ids.Var.{Var}
 use Rattle.sf_base.specs.declared.ids.Var.TheVariants.{Own, Shared}
@@ -19,7 +19,7 @@ use Rattle.sf_sym.specs.State.{State, first_state}
 use Rattle.sf_rules.specs.Checked.Examples.{goal_at}
 use Rattle.sf_rules.specs.Checked.ExamplesOfBodies.{assumes, cell_at, guarded, nil_at, same, shows, v, v_value}
 use Rattle.sf_rules.specs.First.{first_goal, links_of}
-use Rattle.sf_rules.specs.Rows.Whole.{row}
+use Rattle.sf_rules.specs.Rules.{Leaves}
 use Rattle.sf_rules.specs.Setting.{Setting}
 
 -- a second resource q (w) [w == nil]
@@ -38,7 +38,8 @@ guarded_too = record { name = codes "q"; variables = codes "w" ∷ []; invariant
 -- init() { local i; v = new(); w = nil; }
 abbrev pub sets_up_both : Procedure
 sets_up_both = record (procedure (codes "i" ∷ []) 0 0 emp
-    (then (new place (record { var = v; place = place })) (then (assign place (record { var = w; place = place }) ENil)
+    (then (new place (record { var = v; place = place }))
+    (then (assign place (record { var = w; place = place }) ENil)
     done))) { name = codes "init"; locals = 1 }
 
 -- f(x) [v|->] { } [v|->]
@@ -69,16 +70,18 @@ both_invariants = one_cell_at v_value ∷ nil_at w_value ∷ []
 abbrev pub knows : List (Var × Term) → (next : ℕ) → State
 knows vars next = first_state (links_of two_locks.program) vars next
 
--- its local and the variables of both resources are nil, nothing is assumed, and at the end both invariants are due
+-- its local and the variables of both resources are nil, nothing is assumed, and at the end both
+-- invariants are due
 unfoldable pub InitBeginsWithNil : Type 0
 InitBeginsWithNil =
     first_goal two_locks (record { 0 = 0 }) sets_up_both
     ≡ goal_at (knows ((Own 0, Nil) ∷ (v, Nil) ∷ (w, Nil) ∷ []) 0)
-    (run (new place (record { var = v; place = place })) ∷ run (assign place (record { var = w; place = place }) ENil)
+    (run (new place (record { var = v; place = place }))
+    ∷ run (assign place (record { var = w; place = place }) ENil)
     ∷ return place both_invariants ∷ [])
 
--- a procedure that holds a resource knows nothing of its variable but what the precondition says, which is due at the
--- end
+-- a procedure that holds a resource knows nothing of its variable but what the precondition says,
+-- which is due at the end
 unfoldable pub HoldersBeginWithThePrecondition : Type 0
 HoldersBeginWithThePrecondition =
     first_goal two_locks (record { 0 = 1 }) holds_lock
@@ -88,7 +91,8 @@ HoldersBeginWithThePrecondition =
 -- return: both invariants are due, one after the other, and then nothing may be left
 unfoldable pub InitShowsEachInvariant : Type 0
 InitShowsEachInvariant =
-    row two_locks (goal_at (record (state_with []) { vars = (v, Sym 1) ∷ (w, Nil) ∷ [] }) (return place both_invariants ∷ []))
-    t.Return
-    ≡ Some (goal_at (record (state_with []) { vars = (v, Sym 1) ∷ (w, Nil) ∷ [] })
+    Leaves two_locks
+    (goal_at (record (state_with []) { vars = (v, Sym 1) ∷ (w, Nil) ∷ [] })
+    (return place both_invariants ∷ [])) t.Return
+    (goal_at (record (state_with []) { vars = (v, Sym 1) ∷ (w, Nil) ∷ [] })
     (shows (cell_at (Sym 1)) ∷ shows (same Nil Nil) ∷ end place ∷ []) ∷ [])

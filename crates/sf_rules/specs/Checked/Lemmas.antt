@@ -7,6 +7,8 @@ pub mod FewNew
 pub mod FirstVariables
 pub mod Forms
 pub mod FreshVariables
+pub mod RowRules
+pub mod RuleRows
 pub mod StateChildren
 pub mod Subtracting
 pub mod VariableTerms
