@@ -21,9 +21,9 @@ use Rattle.sf_machine.specs.Accessing.{AreAccesses, IsListed}
 use Rattle.sf_machine.specs.Reached.{IsReached}
 use Rattle.sf_machine.specs.Checked.Nexts.{IsIdle}
 use Rattle.sf_machine.specs.Checked.Noting.{Notes}
-use Rattle.sf_machine.specs.Checked.Spots.{SlotFits}
-use Rattle.sf_machine.specs.declared.store.Store.{Store as CodeStore}
-use Rattle.sf_machine.specs.Stores.{store_of}
+use Rattle.sf_frame.specs.Checked.Spots.{SlotFits}
+use Rattle.sf_frame.specs.declared.store.Store.{Store as CodeStore}
+use Rattle.sf_frame.specs.Stores.{store_of}
 
 -- a configuration that is reached is in order
 pub in_order : (p : Program) (c : Config) → IsFormed p → (r : IsReached p c) → IsInOrder p r.starts.procedure c

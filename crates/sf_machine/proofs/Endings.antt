@@ -2,12 +2,11 @@
 -- Names: `values_LAW` of the values of variables, `ended_LAW` of the entry's task.
 use Rattle.std.specs.declared.alloc.Global.{Global}
 use Rattle.std.specs.Option.{option_map}
-use Rattle.std.specs.Prelude.{◌≡◌, ◌↔◌, ◌==◌, ◌+◌, ◌<◌, ℕ, zero, suc, Vec, Option, Some, None, map, get_or, slice_get, true, false, Bool, IsTrue, List, [], ◌∷◌, ◌++◌, length, slice_index_or, unwrap_or}
-use Rattle.std.proofs.Common.{true≢false, sym, ap, ◌∙◌, refl, subst, inl, inr, arith, length-append}
+use Rattle.std.specs.Prelude.{◌≡◌, ◌+◌, ◌<◌, ℕ, zero, suc, Vec, Option, Some, None, map, get_or, slice_get, List, [], ◌∷◌, ◌++◌, length, slice_index_or, unwrap_or}
+use Rattle.std.proofs.Common.{sym, ap, ◌∙◌, refl, subst, inl, inr, arith, length-append}
 use Rattle.std.proofs.lemmas.Bool.{cases_lt}
 use Rattle.std.proofs.Math.ListN.{get_or-append}
 use Rattle.std.proofs.Math.Seq.{get_or-append_seam}
-use Rattle.std.proofs.lemmas.Bool.Decides.{nat_tests}
 use Rattle.std.proofs.lemmas.List.{length-map}
 use Rattle.std.proofs.lemmas.Option.{get_or_from_slice_get, none-some, same_Some, slice_get-map, slice_get_within}
 use Rattle.sf_base.proofs.Lookup.{get-push_before, get-push_last}
@@ -18,8 +17,7 @@ use Rattle.sf_base.specs.declared.ids.Var.TheVariants.{Own, Shared}
 use Rattle.sf_base.specs.declared.value.Value.{Value}
 use Rattle.sf_base.specs.declared.value.Value.TheVariants.{Nil as nil}
 use Rattle.sf_base.specs.HeapStore.{Slot, Store, own, shared}
-use Rattle.sf_core.specs.Machine.Config.{Frame, runs, Config}
-use Rattle.sf_core.specs.Machine.Enabled.{HasEnded}
+use Rattle.sf_core.specs.Machine.Config.{Config}
 use Rattle.sf_core.specs.Machine.Start.{entry_slot}
 use Rattle.sf_core.specs.Machine.Step.{procedure_at}
 use Rattle.sf_core.specs.declared.program.Program.{Program as CodeProgram}
@@ -32,14 +30,9 @@ use Rattle.sf_foot.specs.declared.vars.Vars.{Vars}
 use Rattle.sf_foot.specs.Starting.{HasWidth}
 use Rattle.sf_foot.specs.Variables.{value_of, values_or_none}
 use Rattle.sf_heap.specs.Cells.{Cells, heap_of}
-use Rattle.sf_machine.specs.declared.frame.Frame.{Frame as CodeFrame}
 use Rattle.sf_machine.specs.Ending.{Ends}
 use Rattle.sf_machine.specs.Checked.Resources.{counts_of}
-use Rattle.sf_machine.proofs.NextTodo.{frames_alone}
 use Rattle.sf_machine.proofs.Tables.{counts_same}
-use Rattle.sf_machine.specs.declared.frame.Todo.{Todo}
-use Rattle.sf_machine.specs.declared.frame.Todo.TheVariants.{Commands, Leave}
-use Rattle.sf_machine.specs.Tasks.{frame_of, frames_of, items_of, todo_of}
 use Rattle.sf_machine.specs.Checked.Endings.{AreRows, AreValues}
 
 -- no values
@@ -64,49 +57,6 @@ values_more store slot n values new v h e is = subst (AreValues store slot (n + 
           ap (λ z. slice_index_or (values ++ v ∷ []) z nil) last ∙ get_or-append_seam values v [] nil ∙ e
           ∙ ap (λ z. unwrap_or (store (slot z)) nil) same
     ]
-
--- a frame without entries has nothing to do, and one with entries has
-pub ended_todo : (xs : List Todo) → (length xs ≡ 0) ↔ (todo_of xs ≡ [])
-ended_todo [] = (λ e. refl, λ e. refl)
-ended_todo (x ∷ xs) = (λ e. absurd (omega (arith, e)), λ e. absurd (some x (ap length e)))
-  where
-    some : (y : Todo) → length (todo_of xs ++ items_of y) ≡ 0 → ⊥
-    some (Commands c rest) e =
-        let two = length-append (todo_of xs) (items_of (Commands c rest)) in
-        omega (arith, e, two)
-    some (Leave r) e =
-        let two = length-append (todo_of xs) (items_of (Leave r)) in
-        omega (arith, e, two)
-
--- the entry's task has ended where it has one frame that has nothing to do
-pub ended_frames : (f : Frame) (frames : List Frame) (alone : Bool) → (IsTrue alone ↔ (frames ≡ []))
-    → HasEnded [] (runs (f ∷ frames)) ↔ (IsTrue alone × (f.todo ≡ []))
-ended_frames f [] alone k = (λ h. (k.1 refl, h), λ h. h.1)
-ended_frames f (g ∷ frames) alone k = (
-  λ h. absurd h,
-  λ h. absurd (let none : g ∷ frames ≡ [] = k.0 h.0 in omega (arith, ap length none)),
-)
-
--- so has the task of the code
-pub ended_then : (f : CodeFrame) (below : List CodeFrame) (xs : List CodeFrame) (ys : List Todo) (alone done : Bool)
-    → alone ≡ (length xs == 0) → xs ≡ below → done ≡ (length ys == 0) → ys ≡ f.todo.items → alone ≡ true
-    → IsTrue done ↔ HasEnded [] (runs (frame_of f ∷ frames_of below))
-ended_then f below xs ys alone done e s g t on =
-    let k = ended_frames (frame_of f) (frames_of below) alone (frames_alone alone below xs e s) in (
-      λ h.
-          let none : length ys ≡ 0 = grind (arith, nat_tests) in
-          k.1 (on, (ended_todo f.todo.items).0 (sym (ap length t) ∙ none)),
-      λ h.
-          let none : length ys ≡ 0 = ap length t ∙ (ended_todo f.todo.items).1 (k.0 h).1 in
-          g ∙ ap (λ (z : ℕ). z == 0) none,
-    )
-
-pub ended_else : (f : CodeFrame) (below : List CodeFrame) (xs : List CodeFrame) (alone : Bool)
-    → alone ≡ (length xs == 0) → xs ≡ below → alone ≡ false
-    → IsTrue alone ↔ HasEnded [] (runs (frame_of f ∷ frames_of below))
-ended_else f below xs alone e s off =
-    let k = ended_frames (frame_of f) (frames_of below) alone (frames_alone alone below xs e s) in
-    (λ h. absurd (true≢false (sym h ∙ off)), λ h. (k.0 h).0)
 
 -- no rows
 pub rows_none : (store : Store) (counts : List ℕ) → AreRows store counts 0 []

@@ -1,17 +1,16 @@
 -- What is noted in a list of things.
 -- Names: `noted_LAW` speaks of what was added, `room_LAW` of the slots of a room.
-use Rattle.std.specs.Prelude.{◌≡◌, ◌⊎◌, ◌↔◌, ℕ, ◌+◌, ◌≤◌, ◌<◌, true, List, [], ◌∷◌, ◌++◌}
-use Rattle.std.proofs.Common.{true≢false, sym, ap, subst, inl, inr, arith}
-use Rattle.std.proofs.lemmas.Bool.{cases_eq}
-use Rattle.std.proofs.lemmas.Bool.Decides.{nat_tests}
+use Rattle.std.specs.Prelude.{◌≡◌, ◌⊎◌, ◌↔◌, ℕ, ◌+◌, true, List, [], ◌∷◌, ◌++◌}
+use Rattle.std.proofs.Common.{sym, ap, subst, inl, inr, arith}
 use Rattle.sf_base.specs.declared.ids.Thing.{Thing as CodeThing}
-use Rattle.sf_base.specs.HeapStore.{Slot, shared, own}
+use Rattle.sf_base.specs.HeapStore.{own}
 use Rattle.sf_core.specs.Machine.Config.{in_room}
 use Rattle.sf_core.specs.Machine.Enabled.{Thing, variable, cell, IsInRoom}
 use Rattle.sf_core.proofs.Machine.InOrder.Names.{in_room-own}
 use Rattle.sf_machine.specs.Accessing.{thing_of, IsListed}
 use Rattle.sf_machine.specs.Checked.Noting.{Notes}
-use Rattle.sf_machine.specs.Checked.Tasks.{first_slots}
+use Rattle.sf_frame.specs.Checked.Frames.{first_slots}
+use Rattle.sf_frame.proofs.RoomSlots.{room_keeps, room_nowhere, room_splits}
 
 -- a list with one thing more
 listed_snoc : (xs : List CodeThing) (x : CodeThing) (t : Thing)
@@ -63,31 +62,6 @@ noted_by a b P Q n k = λ t. (
   λ h. elim ((n t).0 h) [ inl o ↦ inl o | inr p ↦ inr ((k t).0 p) ],
   λ h. elim h [ inl o ↦ (n t).1 (inl o) | inr q ↦ (n t).1 (inr ((k t).1 q)) ],
 )
-
--- a slot of a room is one of a larger one
-pub room_keeps : (event first i : ℕ) (slot : Slot) → in_room (first_slots event first i) slot ≡ true
-    → in_room (first_slots event first (i + 1)) slot ≡ true
-room_keeps event first i (shared r k) h = absurd (true≢false (sym h))
-room_keeps event first i (own e k) h = grind (arith, nat_tests)
-
--- a slot of the larger one is in the other, or the last
-pub room_splits : (event first i : ℕ) (slot : Slot) → in_room (first_slots event first (i + 1)) slot ≡ true
-    → (in_room (first_slots event first i) slot ≡ true) ⊎ (slot ≡ own event (first + i))
-room_splits event first i (shared r k) h = absurd (true≢false (sym h))
-room_splits event first i (own e k) h =
-    let here : e ≡ event = grind (arith, nat_tests) in
-    elim (cases_eq k (first + i)) [
-      | inl s ↦ inr (λ j. own (here j) (s j))
-      | inr n ↦ inl (grind (arith, nat_tests))
-    ]
-
--- no slot is in a room of none
-pub room_nowhere : (event first : ℕ) (slot : Slot) → in_room (first_slots event first 0) slot ≡ true → ⊥
-room_nowhere event first (shared r k) h = true≢false (sym h)
-room_nowhere event first (own e k) h =
-    let low : first ≤ k = grind (arith, nat_tests) in
-    let high : k < first + 0 = grind (arith, nat_tests) in
-    absurd (omega (arith, low, high))
 
 -- no slot is among none
 pub room_none : (event first : ℕ) (t : Thing) → IsInRoom (first_slots event first 0) t → ⊥

@@ -6,8 +6,8 @@ use Rattle.std.specs.BTreeSet.{BTreeSet, contains}
 use Rattle.std.proofs.Common.{sym, ap, ◌∙◌, refl, arith}
 use Rattle.std.proofs.lemmas.Bool.Decides.{nat_tests}
 use Rattle.sf_core.specs.Machine.Config.{Common}
-use Rattle.sf_machine.specs.Checked.Effects.{IsSameCommon}
-use Rattle.sf_machine.proofs.Spots.{number_test}
+use Rattle.sf_frame.specs.Checked.Effects.{IsSameCommon}
+use Rattle.sf_frame.proofs.Spots.{number_test}
 
 -- what is the same at each location, slot and resource is one
 pub common_same : (s t : Common) → IsSameCommon s t → s ≡ t

@@ -17,7 +17,7 @@ use Rattle.sf_core.proofs.Machine.InOrder.Names.{in_room-own}
 use Rattle.sf_core.proofs.Machine.InOrder.Slots.{fresh-slot}
 use Rattle.sf_core.proofs.Machine.InOrder.Trees.{each-at}
 use Rattle.sf_core.proofs.Machine.Laws.{used_slots_are_there}
-use Rattle.sf_machine.specs.Checked.Plans.{HasCallees, IsReady, SetsField}
+use Rattle.sf_frame.specs.Checked.Plans.{HasCallees, IsReady, SetsField}
 
 -- a slot that is there
 slot_there : {X : Type 0} (o : Option X) (v : X) → o ≡ Some v → is_some o ≡ true
@@ -73,7 +73,7 @@ ready_fresh p g c n i o fresh =
 -- the event of a command that comes next has what it rests on
 pub ready : (p : Program) (g : Procedure) (c : Config) (ev : Event) (f : Fixed) (below : List Frame) (one : Command)
     (rest : List Item) → IsInOrder p g c → c.used ev.number ≡ false
-    → task_at ev.task c.tasks ≡ Some (task_with f (command one ∷ rest) below) → IsReady p ev c.common f one
+    → task_at ev.task c.tasks ≡ Some (task_with f (command one ∷ rest) below) → IsReady p ev.number c.common f one
 unfolding UsedSlotsAreThere
 ready p g c ev f below one rest o fresh there = record {
   written = λ slot w.

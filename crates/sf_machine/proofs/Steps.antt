@@ -1,7 +1,7 @@
 -- The step of an event: what was planned is its next configuration, or there is none for that reason.
 -- Names: `put_LAW` of the tree of tasks, `going_LAW` of tasks that may go on, `refuses_LAW` of reasons, `plan_KIND` for
 -- each kind of next step.
-use Rattle.std.specs.Prelude.{◌≡◌, ◌≢◌, ℕ, ◌==◌, Bool, true, false, List, [], ◌∷◌, length, Some}
+use Rattle.std.specs.Prelude.{◌≡◌, ◌≢◌, ℕ, ◌==◌, Bool, true, false, List, [], ◌∷◌, length, Some, None}
 use Rattle.std.proofs.Common.{sym, ap, ◌∙◌, refl, subst, inl, inr, arith}
 use Rattle.std.proofs.lemmas.Bool.Decides.{nat_tests}
 use Rattle.std.proofs.lemmas.Option.{same_Some}
@@ -9,35 +9,63 @@ use Rattle.sf_base.proofs.Options.{some-once}
 use Rattle.sf_base.specs.declared.ids.ProcId.{ProcId}
 use Rattle.sf_base.specs.declared.ids.ResId.{ResId}
 use Rattle.sf_base.specs.declared.path.Turn.TheVariants.{Left as left, Right as right}
-use Rattle.sf_core.specs.Machine.Config.{Item, command, leave, Room, Fixed, Frame, Task, runs, waits, Path, Common, Config, task_at, put_task, IsCalled, IsOver}
+use Rattle.sf_core.specs.Machine.Config.{Item, command, leave, Fixed, Frame, Task, runs, waits, Path, Common, Config, task_at, put_task, IsCalled, IsOver, evaluate}
 use Rattle.sf_core.specs.Machine.Enabled.{HasEnded}
+use Rattle.sf_core.specs.declared.command.Expr.{Expr}
+use Rattle.sf_base.specs.HeapStore.{Heap}
+use Rattle.sf_base.specs.declared.value.Value.{Value}
 use Rattle.sf_core.specs.Checked.Machine.InOrder.{IsInOrder}
 use Rattle.sf_core.specs.Checked.Machine.Laws.{ExitsAreOfHeldResources}
 use Rattle.sf_core.specs.Machine.Next.{Next, does, leaves, returns, joins, nothing, next}
-use Rattle.sf_core.specs.Machine.Step.{Event, Step, close_room, free_all_if, task_with}
+use Rattle.sf_core.specs.Machine.Step.{Event, Step, TaskStep, close_room, free_all_if, task_with}
 use Rattle.sf_core.specs.Program.Init.{sets_up}
 use Rattle.sf_core.specs.Program.Syntax.{Command, assign, look_up, mutate, new, dispose, if, while, call, fork, with, Procedure, Program}
 use Rattle.sf_core.specs.Machine.SpentSteps.{NeedsNoChild}
 use Rattle.sf_core.proofs.Machine.Laws.{exits_are_of_held_resources}
-use Rattle.sf_machine.specs.Answers.{CommandRefuses, IsGoing, IsRefused, Refuses}
-use Rattle.sf_machine.specs.declared.effect.Effect.{Effect}
-use Rattle.sf_machine.specs.declared.effect.Effect.TheVariants.{Nothing as no_effect, Free, Close}
+use Rattle.sf_machine.specs.Answers.{CommandRefuses, FindsNone as AnswersNone, HasToWait as AnswersWait, IsGoing, IsRefused, Refuses}
+use Rattle.sf_frame.specs.declared.effect.Effect.{Effect}
+use Rattle.sf_frame.specs.declared.effect.Effect.TheVariants.{Nothing as no_effect, Free, OpenBoth, Close}
 use Rattle.sf_machine.specs.declared.event.Stepped.{Stepped}
 use Rattle.sf_machine.specs.declared.event.Stepped.TheVariants.{Moved, Absent, Waiting, NoTask, Stale, TooDeep}
 use Rattle.sf_machine.specs.declared.following.Next.{Next as Found}
 use Rattle.sf_machine.specs.declared.following.Next.TheVariants.{Does, Leaves, Returns, Joins, Nothing}
-use Rattle.sf_machine.specs.declared.frame.GoOn.{GoOn}
-use Rattle.sf_machine.specs.declared.frame.Room.{Room as CodeRoom}
+use Rattle.sf_frame.specs.declared.frame.GoOn.{GoOn}
+use Rattle.sf_frame.specs.declared.frame.Room.{Room as CodeRoom}
 use Rattle.sf_machine.specs.declared.plan.Plan.{Plan}
 use Rattle.sf_machine.specs.declared.plan.Plan.TheVariants.{Acts, Refused}
 use Rattle.sf_machine.specs.declared.task.Change.{Change}
-use Rattle.sf_machine.specs.declared.task.Change.TheVariants.{GoOn as go_on, Return, Join}
-use Rattle.sf_machine.specs.Checked.Nexts.{IsIdle, IsNext}
+use Rattle.sf_machine.specs.declared.task.Change.TheVariants.{Steps, Fork, Join}
+use Rattle.sf_frame.specs.declared.stack.Change.{Change as StackChange}
+use Rattle.sf_frame.specs.declared.stack.Change.TheVariants.{GoOn as go_on, Return}
+use Rattle.sf_frame.specs.declared.plan.Plan.{Plan as StackPlan}
+use Rattle.sf_frame.specs.declared.plan.Plan.TheVariants.{Acts as acts, Forks as forks, Refused as refused}
+use Rattle.sf_frame.specs.declared.refusal.Refusal.{Refusal}
+use Rattle.sf_frame.specs.declared.refusal.Refusal.TheVariants.{Absent as absent, Waiting as waiting, Stale as stale, TooDeep as too_deep}
+use Rattle.sf_frame.specs.Checked.Effects.{applied, EffectWithin, Suits}
+use Rattle.sf_frame.specs.Frames.{frame_of}
+use Rattle.sf_frame.specs.Refusals.{FindsNone, HasToWait, Refuses as StackRefuses}
+use Rattle.sf_machine.specs.Checked.Nexts.{next_by, IsIdle, IsNext}
+use Rattle.sf_frame.specs.Checked.Nexts.{IsNext as IsStackNext}
+use Rattle.sf_frame.specs.declared.following.Next.{Next as StackFound}
+use Rattle.sf_frame.specs.declared.following.Next.TheVariants.{Does as stack_does, Leaves as stack_leaves, Returns as stack_returns, Done as stack_done}
 use Rattle.sf_machine.specs.Checked.Performing.{performed}
-use Rattle.sf_machine.specs.Checked.Plans.{IsPlanned, Plans, PlansEvent}
-use Rattle.sf_machine.specs.Tasks.{room_of}
-use Rattle.sf_machine.specs.Checked.Tasks.{at_path, goes_on, moved, rest_of}
+use Rattle.sf_machine.specs.Checked.Plans.{answer_of, IsPlanned, IsPlanOf, PlansEvent}
+use Rattle.sf_machine.specs.Tasks.{task_of}
+use Rattle.sf_frame.specs.Checked.Plans.{Plans}
+use Rattle.sf_frame.specs.Frames.{room_of}
+use Rattle.sf_machine.specs.Checked.Tasks.{at_path, moved}
+use Rattle.sf_frame.specs.Checked.Frames.{goes_on, rest_of}
 use Rattle.sf_machine.proofs.Enabling.{busy_goes, done_goes}
+
+-- what a task's frames do next it does
+pub next_runs : (frames : List Frame) (entry : Bool) (found : StackFound) → IsStackNext frames entry found
+    → IsNext (runs frames) entry (next_by found)
+next_runs frames entry (stack_does f one) h = (h.0, h.1, ap runs h.2)
+next_runs frames entry (stack_leaves r) h = (h.0, h.1, h.2, ap runs h.3)
+next_runs frames entry (stack_returns g room) h = (h.0, h.1, ap runs h.2, h.3, h.4, h.5)
+next_runs [] entry stack_done h = tt
+next_runs (f ∷ []) entry stack_done h = h
+next_runs (f ∷ g ∷ below) entry stack_done h = h
 
 -- the task that is there changed is the changed task put there
 put_moved : (path : Path) (f : Task → Task) (t from : Task) → task_at path t ≡ Some from
@@ -174,30 +202,92 @@ pub plan_stale : (p : Program) (ev : Event) (c : Config) (t : Task) → IsGoing 
 plan_stale p ev c t going used =
     refused_answers p ev c Stale (record { task = t; going = going; cause = inl (used, refl) })
 
+-- no cell is found, as a refusal says it and as an answer does
+answer_finds : (see : Expr → Value) (heap : Heap) (e : Expr) (why : Refusal) → FindsNone see heap e why
+    → AnswersNone see heap e (answer_of why)
+answer_finds see heap e (absent v) h = h
+answer_finds see heap e (waiting r) h = h
+answer_finds see heap e stale h = h
+answer_finds see heap e too_deep h = h
+
+-- a region waits, likewise
+answer_waits : (r : ResId) (held is_false : Type 0) (why : Refusal) → HasToWait r held is_false why
+    → AnswersWait r held is_false (answer_of why)
+answer_waits r held is_false (absent v) h = h
+answer_waits r held is_false (waiting q) h = h
+answer_waits r held is_false stale h = h
+answer_waits r held is_false too_deep h = h
+
+-- a command refuses, likewise
+answer_refuses : (ev : Event) (s : Common) (f : Fixed) (c : Command) (why : Refusal) → StackRefuses ev s f c why
+    → CommandRefuses ev s f c (answer_of why)
+answer_refuses ev s f (assign place x e) why h = h
+answer_refuses ev s f (look_up place x e g) why h = answer_finds (evaluate f.slots s.store) s.heap e why h
+answer_refuses ev s f (mutate place e g v) why h = answer_finds (evaluate f.slots s.store) s.heap e why h
+answer_refuses ev s f (new place x) why h = (ap answer_of h.0, h.1)
+answer_refuses ev s f (dispose place e) why h = answer_finds (evaluate f.slots s.store) s.heap e why h
+answer_refuses ev s f (if place test this that) why h = h
+answer_refuses ev s f (while place test kept body) why h = h
+answer_refuses ev s f (call place c) why h = h
+answer_refuses ev s f (fork place c d) why h = (ap answer_of h.0, h.1)
+answer_refuses ev s f (with place r test body) why h = answer_waits r (s.held r ≢ None) _ why h
+
 -- the event of a command
 pub plan_does : (p : Program) (ev : Event) (c : Config) (f : Fixed) (below : List Frame) (one : Command)
-    (rest : List Item) (plan : Plan) → c.used ev.number ≡ false
-    → task_at ev.task c.tasks ≡ Some (task_with f (command one ∷ rest) below) → Plans p ev c.common f one plan
-    → PlansEvent p ev c plan
-plan_does p ev c f below one rest (Acts effect change) fresh there h = record {
+    (rest : List Item) (planned : StackPlan) (plan : Plan) → c.used ev.number ≡ false
+    → task_at ev.task c.tasks ≡ Some (task_with f (command one ∷ rest) below) → Plans p ev c.common f one planned
+    → IsPlanOf planned plan → PlansEvent p ev c plan
+plan_does p ev c f below one rest (acts effect change) (Acts e (Steps d)) fresh there h k = record {
   fresh = fresh;
   task = task_with f (command one ∷ rest) below;
   there = there;
-  steps = (h below rest).0;
-  suits = (h below rest).1;
-  within = (h below rest).2;
+  steps =
+      let steps = (h below rest).0 in
+      subst (λ (z : StackChange). TaskStep p ev c.common (task_with f (command one ∷ rest) below)
+      (applied ev e c.common) (moved (Steps z) (task_with f (command one ∷ rest) below))) (sym k.1)
+      (subst (λ (z : Effect). TaskStep p ev c.common (task_with f (command one ∷ rest) below)
+      (applied ev z c.common) (moved (Steps change) (task_with f (command one ∷ rest) below))) (sym k.0) steps);
+  suits = subst (λ (z : Effect). Suits ev z c.common) (sym k.0) (h below rest).1;
+  within = subst (EffectWithin p) (sym k.0) (h below rest).2;
 }
-plan_does p ev c f below one rest (Refused why) fresh there h = refused_answers p ev c why (record {
+plan_does p ev c f below one rest (forks one_callee other_callee) (Acts e (Fork two three)) fresh there h k = record {
+  fresh = fresh;
   task = task_with f (command one ∷ rest) below;
-  going = record { there = there; going = busy_goes ev.task f (command one) rest below; alone = tt };
-  cause = inr (fresh, h below rest);
-})
+  there = there;
+  steps =
+      let steps = (h below rest).0 in
+      subst (λ (z : Effect). TaskStep p ev c.common (task_with f (command one ∷ rest) below)
+      (applied ev z c.common) (moved (Fork two three) (task_with f (command one ∷ rest) below))) (sym k.0)
+      (subst (λ (z : Task). TaskStep p ev c.common (task_with f (command one ∷ rest) below)
+      (applied ev (OpenBoth one_callee.opening other_callee.opening) c.common)
+      (waits (record { fixed = f; todo = rest } ∷ below) (task_of two.value) z)) (sym k.2)
+      (subst (λ (z : Task). TaskStep p ev c.common (task_with f (command one ∷ rest) below)
+      (applied ev (OpenBoth one_callee.opening other_callee.opening) c.common)
+      (waits (record { fixed = f; todo = rest } ∷ below) z (runs (frame_of other_callee.frame ∷ [])))) (sym k.1) steps));
+  suits = subst (λ (z : Effect). Suits ev z c.common) (sym k.0) (h below rest).1;
+  within = subst (EffectWithin p) (sym k.0) tt;
+}
+plan_does p ev c f below one rest (refused why) (Refused answer) fresh there h k =
+    subst (λ (z : Stepped). PlansEvent p ev c (Refused z)) (sym k) (refused_answers p ev c (answer_of why) (record {
+      task = task_with f (command one ∷ rest) below;
+      going = record { there = there; going = busy_goes ev.task f (command one) rest below; alone = tt };
+      cause = inr (fresh, answer_refuses ev c.common f one why (h below rest));
+    }))
+plan_does p ev c f below one rest (acts effect change) (Acts e (Fork two three)) fresh there h k = absurd k
+plan_does p ev c f below one rest (acts effect change) (Acts e Join) fresh there h k = absurd k
+plan_does p ev c f below one rest (acts effect change) (Refused answer) fresh there h k = absurd k
+plan_does p ev c f below one rest (forks one_callee other_callee) (Acts e (Steps d)) fresh there h k = absurd k
+plan_does p ev c f below one rest (forks one_callee other_callee) (Acts e Join) fresh there h k = absurd k
+plan_does p ev c f below one rest (forks one_callee other_callee) (Refused answer) fresh there h k = absurd k
+plan_does p ev c f below one rest (refused why) (Acts e (Steps d)) fresh there h k = absurd k
+plan_does p ev c f below one rest (refused why) (Acts e (Fork two three)) fresh there h k = absurd k
+plan_does p ev c f below one rest (refused why) (Acts e Join) fresh there h k = absurd k
 
 -- the exit from a region
 pub plan_leaves : (p : Program) (g : Procedure) (ev : Event) (c : Config) (f : Fixed) (below : List Frame) (r : ResId)
     (rest : List Item) (on : GoOn) → IsInOrder p g c → c.used ev.number ≡ false
     → task_at ev.task c.tasks ≡ Some (task_with f (leave r ∷ rest) below)
-    → ((todo : List Item) → goes_on on todo ≡ rest_of todo) → PlansEvent p ev c (Acts (Free r) (go_on on))
+    → ((todo : List Item) → goes_on on todo ≡ rest_of todo) → PlansEvent p ev c (Acts (Free r) (Steps (go_on on)))
 unfolding ExitsAreOfHeldResources
 plan_leaves p g ev c f below r rest on o fresh there after = record {
   fresh = fresh;
@@ -224,7 +314,7 @@ pub plan_returns : (p : Program) (ev : Event) (c : Config) (f : Fixed) (below : 
     (room : CodeRoom) (all : Bool) (n : ℕ) → c.used ev.number ≡ false
     → task_at ev.task c.tasks ≡ Some (task_with f [] below) → f.room ≡ room_of room → n ≡ length ev.task
     → ((n == 0) ≡ true → below ≢ []) → f.procedure ≡ g → all ≡ sets_up p g
-    → PlansEvent p ev c (Acts (Close room all) Return)
+    → PlansEvent p ev c (Acts (Close room all) (Steps Return))
 plan_returns p ev c f below g room all n fresh there is e k who so = record {
   fresh = fresh;
   task = task_with f [] below;

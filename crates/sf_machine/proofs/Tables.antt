@@ -1,6 +1,6 @@
 -- The variables that come up where a run begins.
 -- Names: `count_LAW` speaks of how many variables a resource has, `store_LAW` of the store that comes up.
-use Rattle.std.specs.Prelude.{◌≡◌, ℕ, zero, suc, ◌+◌, ◌-◌, ◌<◌, ◌≤◌, ◌==◌, Bool, true, false, ◌&&◌, ◌||◌, cond, leb, ltb, nat_lt, List, [], ◌∷◌, ◌++◌, map, length, get_or, slice_get, slice_index_or, Option, Some, None, is_some}
+use Rattle.std.specs.Prelude.{◌≡◌, ℕ, zero, suc, ◌+◌, ◌-◌, ◌<◌, ◌≤◌, ◌==◌, Bool, true, false, ◌&&◌, ◌||◌, cond, leb, ltb, nat_lt, List, [], ◌∷◌, map, length, get_or, slice_get, slice_index_or, Option, Some, None, is_some}
 use Rattle.std.specs.List.{sum_by, list_any}
 use Rattle.std.specs.Option.{unwrap_or}
 use Rattle.std.specs.Ordering.{nat_cmp, is_eq}
@@ -22,7 +22,7 @@ use Rattle.sf_base.specs.declared.value.Value.{Value}
 use Rattle.sf_base.specs.declared.value.Value.TheVariants.{Nil as nil}
 use Rattle.sf_base.specs.HeapStore.{Heap, Slot, shared, own, Store}
 use Rattle.sf_core.specs.declared.program.Resource.{Resource as CodeResource}
-use Rattle.sf_core.specs.Machine.Config.{Config, Frame, runs, in_room}
+use Rattle.sf_core.specs.Machine.Config.{Config, runs, in_room}
 use Rattle.sf_core.specs.Machine.Start.{Beginning, settled, fresh, Start, first_count, first_frames, first_holders, initial_config, IsKept}
 use Rattle.sf_core.specs.Program.Init.{IsInitAmong, init_name}
 use Rattle.sf_core.specs.Program.Named.{IsFirstNamed}
@@ -36,14 +36,13 @@ use Rattle.sf_foot.specs.Starting.{IsBeginning, store_of}
 use Rattle.sf_foot.specs.Variables.{value_of, values_or_none}
 use Rattle.sf_heap.specs.Cells.{Cells, heap_of}
 use Rattle.sf_machine.specs.declared.config.Config.{Config as CodeConfig}
-use Rattle.sf_machine.specs.declared.frame.Frame.{Frame as CodeFrame}
-use Rattle.sf_machine.specs.Configs.{config_of, held_of}
+use Rattle.sf_machine.specs.Configs.{config_of}
+use Rattle.sf_frame.specs.Commons.{held_of}
 use Rattle.sf_machine.specs.Checked.Firsts.{beginning_at, beginning_with, first_store}
 use Rattle.sf_machine.specs.Checked.Resources.{counts_of, in_resources, var_at}
-use Rattle.sf_machine.specs.Stores.{store_of as code_store}
-use Rattle.sf_machine.specs.Tasks.{frame_of, frames_of}
-use Rattle.sf_machine.specs.Checked.Tasks.{first_slots}
-use Rattle.sf_machine.proofs.Spots.{number_test}
+use Rattle.sf_frame.specs.Stores.{store_of as code_store}
+use Rattle.sf_frame.specs.Checked.Frames.{first_slots}
+use Rattle.sf_frame.proofs.Spots.{number_test}
 
 -- a resource has few variables
 pub few_at : (rs : List CodeResource) (k : ℕ) (r : CodeResource) → k < length rs
@@ -202,18 +201,6 @@ used_first old new e h n =
     chosen : (b : Bool) → cond b true false ≡ b
     chosen true = refl
     chosen false = refl
-
--- the stack of a task without frames below
-pub tasks_first : (f : CodeFrame) (g : Frame) (below : List CodeFrame) → frame_of f ≡ g → below ≡ []
-    → runs (frame_of f ∷ frames_of below) ≡ runs (g ∷ [])
-tasks_first f g below e h = λ i. runs (e i ∷ frames_of (h i))
-
--- and of one with one frame below
-pub tasks_two : (f d : CodeFrame) (g h : Frame) (none below : List CodeFrame) → frame_of f ≡ g → frame_of d ≡ h
-    → none ≡ [] → below ≡ none ++ d ∷ [] → runs (frame_of f ∷ frames_of below) ≡ runs (g ∷ h ∷ [])
-tasks_two f d g h none below e o n is =
-    let one : below ≡ d ∷ [] = is ∙ ap (λ z. z ++ d ∷ []) n in
-    λ i. runs (e i ∷ (ap frames_of one ∙ ap (λ z. z ∷ []) o) i)
 
 -- a configuration of these parts is the one in which a procedure starts
 pub begins_as : (p : Program) (f : ProcId) (g : Procedure) (b : Beginning) (vars : Vars) (heap : Cells)

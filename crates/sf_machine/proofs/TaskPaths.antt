@@ -1,7 +1,7 @@
 -- The paths of tasks, as they are listed, and the value at which a task's next step finds no cell.
 -- Names: `listed_WHAT` for paths, `absent_WHAT` for values.
-use Rattle.std.specs.Prelude.{◌≡◌, List, [], ◌∷◌, ◌++◌, Option, Some, None, map, MatchOption}
-use Rattle.std.proofs.Common.{sym, ap, ap₂, ◌∙◌, refl, subst, append_assoc, append-nil}
+use Rattle.std.specs.Prelude.{◌≡◌, ◌<◌, List, [], ◌∷◌, ◌++◌, Option, Some, None, map, MatchOption, length}
+use Rattle.std.proofs.Common.{sym, ap, ap₂, ◌∙◌, refl, subst, append_assoc, append-nil, arith}
 use Rattle.std.proofs.lemmas.List.{map-append}
 use Rattle.sf_base.proofs.Options.{some-once}
 use Rattle.sf_base.specs.declared.ids.ResId.{ResId}
@@ -11,7 +11,7 @@ use Rattle.sf_base.specs.declared.value.Value.{Value}
 use Rattle.sf_base.specs.HeapStore.{Heap}
 use Rattle.sf_core.specs.declared.command.Expr.{Expr}
 use Rattle.sf_core.specs.Machine.Bad.{IsAtNoCell, TouchesNoCell}
-use Rattle.sf_core.specs.Machine.Config.{Item, command, Fixed, Frame, Task, Path, Config, evaluate, task_at}
+use Rattle.sf_core.specs.Machine.Config.{Item, command, Fixed, Frame, Task, runs, Path, Config, evaluate, task_at}
 use Rattle.sf_core.specs.Machine.Enabled.{IsShut}
 use Rattle.sf_core.specs.Machine.Next.{next}
 use Rattle.sf_core.specs.Machine.Step.{task_with}
@@ -75,3 +75,9 @@ absent_does c path f below one rest (Some v) there h = record {
   absent = h.0;
   is = h.1;
 }
+
+-- no path leads on from a task that runs
+pub at_leaf : (path : Path) (frames : List Frame) → 0 < length path → task_at path (runs frames) ≡ None
+at_leaf [] frames l = absurd (omega arith)
+at_leaf (left ∷ path) frames l = refl
+at_leaf (right ∷ path) frames l = refl

@@ -1,9 +1,6 @@
 -- What is checked and need not be believed: laws, worked examples, lemmas, and definitions that only proofs use.
 -- One module for each.
-pub mod Calls
-pub mod Effects
 pub mod Endings
-pub mod Entries
 pub mod Firsts
 pub mod Missing
 pub mod Nexts
@@ -11,5 +8,4 @@ pub mod Noting
 pub mod Performing
 pub mod Plans
 pub mod Resources
-pub mod Spots
 pub mod Tasks

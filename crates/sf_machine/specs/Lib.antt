@@ -7,7 +7,5 @@ pub mod Ending
 pub mod Events
 pub mod Paths
 pub mod Reached
-pub mod Spots
-pub mod Stores
 pub mod Tasks
 pub mod Checked

@@ -5,7 +5,8 @@ ghost use Rattle.sf_core.specs.Machine.Enabled.{IsShut};
 ghost use Rattle.sf_core.specs.Program.ProgramView.{program_of};
 ghost use Rattle.sf_core.specs.Program.View.{command_of};
 ghost use Rattle.sf_machine.specs.Accessing.{AreAccesses};
-ghost use Rattle.sf_machine.specs.Configs.{config_of, held_of};
+ghost use Rattle.sf_frame.specs.Commons.{held_of};
+ghost use Rattle.sf_machine.specs.Configs.{config_of};
 ghost use Rattle.sf_machine.specs.Reached.{IsReached};
 
 use crate::accessed::Accesses;

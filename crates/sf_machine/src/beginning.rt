@@ -12,21 +12,19 @@ ghost use Rattle.sf_core.specs.Program.ProgramView.{program_of};
 ghost use Rattle.sf_foot.specs.Starting.{StartsWith};
 ghost use Rattle.sf_machine.specs.Beginning.{Begins};
 ghost use Rattle.sf_machine.specs.Checked.Firsts.{beginning_at, first_store};
-ghost use Rattle.sf_machine.specs.Configs.{config_of, held_of, IsWide};
+ghost use Rattle.sf_frame.specs.Commons.{held_of};
+ghost use Rattle.sf_frame.specs.Stores.{store_of};
+ghost use Rattle.sf_machine.specs.Configs.{config_of, IsWide};
 ghost use Rattle.sf_machine.specs.Reached.{IsReached};
-ghost use Rattle.sf_machine.specs.Stores.{store_of};
 ghost use Rattle.sf_machine.specs.Tasks.{task_of};
 
-use crate::config::{Common, Config};
-use crate::entry::{entry_frame, init_frame};
-use crate::frame::Room;
+use crate::config::Config;
 use crate::resources::add_resources;
-use crate::rooms::open;
-use crate::store::Store;
 use crate::task::Task;
 use sf_base::{ProcId, TaskPath};
 use sf_core::Program;
 use sf_foot::{Start, Vars};
+use sf_frame::{Room, Shared, Stack, Store, entry_frame, init_frame, open};
 use std::alloc::{AllocError, Global};
 use std::collections::{BTreeMap, BTreeSet};
 
@@ -80,11 +78,9 @@ fn first_task<'p>(
     match init {
         Some(n) => {
             let top = init_frame(alloc, n, p.proc(n), own_count(p, f))?;
-            let mut below = Vec::new(alloc);
-            below.push(entry)?;
-            Ok(Task::Runs(top, below))
+            Ok(Task::Runs(Stack::above(alloc, top, entry)?))
         }
-        None => Ok(Task::Runs(entry, Vec::new(alloc))),
+        None => Ok(Task::Runs(Stack::of(alloc, entry))),
     }
 }
 
@@ -158,7 +154,7 @@ pub fn begin<'p>(
     let mut used = BTreeSet::new(alloc);
     used.insert(0)?;
     Ok(Config {
-        common: Common {
+        common: Shared {
             heap,
             store,
             held,

@@ -1,6 +1,12 @@
 //! Events, and what a step answers.
 
+ghost use Rattle.std.specs.Prelude.{◌≡◌};
+ghost use Rattle.sf_frame.specs.Stamps.{event_of};
+ghost use Rattle.sf_heap.specs.Cells.{cell_of};
+ghost use Rattle.sf_machine.specs.Events.{event_of as event_of_code};
+
 use sf_base::{ResId, TaskPath, Value};
+use sf_frame::Stamp;
 use sf_heap::Cell;
 
 /// An event: of which task, and its number. A `new` makes a cell with those fields at that
@@ -15,6 +21,20 @@ pub struct Event {
     pub at: u64,
     /// The values of its fields.
     pub fields: Cell,
+}
+
+impl Event {
+    /// The event without the fields of its cell.
+    pub(crate) fn stamp(&self) -> Stamp
+        ensures event { event_of result (cell_of self.now.fields) ≡ event_of_code self.now }
+        ensures number { result.number ≡ self.now.number }
+    {
+        Stamp {
+            task: self.task,
+            number: self.number,
+            at: self.at,
+        }
+    }
 }
 
 /// What a step answers.

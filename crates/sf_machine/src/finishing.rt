@@ -10,16 +10,15 @@ ghost use Rattle.sf_machine.specs.Configs.{config_of, IsWide};
 ghost use Rattle.sf_machine.specs.Ending.{Ends};
 ghost use Rattle.sf_machine.specs.Checked.Endings.{AreRows, AreValues};
 ghost use Rattle.sf_machine.specs.Checked.Resources.{counts_of};
-ghost use Rattle.sf_machine.specs.Stores.{store_of};
+ghost use Rattle.sf_frame.specs.Stores.{store_of};
 
-use crate::config::{Common, Config};
+use crate::config::Config;
 use crate::resources::variable_count;
-use crate::spot::Spot;
-use crate::store::Store;
 use crate::task::Task;
 use sf_base::{ProcId, ResId, Value};
 use sf_core::Program;
 use sf_foot::{Finish, Vars};
+use sf_frame::{Shared, Spot, Store};
 use std::alloc::{AllocError, Global};
 
 impl<'p> Config<'p> {
@@ -29,10 +28,8 @@ impl<'p> Config<'p> {
     {
         match &self.tasks {
             Task::Over => true,
-            Task::Runs(frame, below) => {
-                below.as_slice().is_empty() && frame.todo.as_slice().is_empty()
-            }
-            Task::Waits(_, _, _, _) => false,
+            Task::Runs(stack) => stack.has_ended(),
+            Task::Waits(_, _, _) => false,
         }
     }
 
@@ -49,7 +46,7 @@ impl<'p> Config<'p> {
         let own = own_values(alloc, &self.common.store, count)?;
         let shared = values_of_resources(alloc, &self.common.store, p)?;
         let Config { common, .. } = self;
-        let Common { heap, .. } = common;
+        let Shared { heap, .. } = common;
         Ok(Finish {
             vars: Vars { own, shared },
             heap,

@@ -1,19 +1,14 @@
-//! The machine that runs: configurations of running programs, on one heap and one store.
+//! The machine that runs: configurations of running programs, on one heap and one store. What an
+//! event makes of the frames of one task, and of what all tasks share, is sf_frame's.
 //!
-//! - `spot`: where the store keeps the values of variables.
-//! - `store`, `rooms`: the values of variables by their slots, and rooms of slots that come up.
-//! - `frame`: frames, and what they have still to do.
 //! - `task`: the tree of tasks, and what an event makes of one of them.
 //! - `following`: what a task does next.
-//! - `values`: the values of expressions and tests.
 //! - `config`: configurations.
-//! - `resources`, `entry`, `beginning`: the configuration in which a procedure starts.
+//! - `resources`, `beginning`: the configuration in which a procedure starts.
 //! - `accessed`, `noting`, `accessing`: what the next step of a task reads and writes.
 //! - `listing`: the paths of all tasks. `missing`: where the next step of a task finds no cell.
 //! - `event`: events, and what a step answers.
-//! - `effect`, `cells`, `applying`: what an event makes of what all tasks share.
-//! - `calling`: the frames of callees, and their values.
-//! - `plan`: what the event of a command would make of a configuration, or why it is none.
+//! - `plan`: what an event would make of a configuration, or why it is none.
 //! - `performing`: what an event makes of a configuration.
 //! - `finishing`: whether a run has ended, and what it ends with.
 //! - `stepping`: the step. `laws`: that each answer of it comes exactly where its cause is.
@@ -26,17 +21,11 @@
 
 mod accessed;
 mod accessing;
-mod applying;
 mod beginning;
-mod calling;
-mod cells;
 mod config;
-mod effect;
-mod entry;
 mod event;
 mod finishing;
 mod following;
-mod frame;
 mod laws;
 mod listing;
 mod missing;
@@ -44,12 +33,8 @@ mod noting;
 mod performing;
 mod plan;
 mod resources;
-mod rooms;
-mod spot;
 mod stepping;
-mod store;
 mod task;
-mod values;
 
 pub use accessed::Accesses;
 pub use accessing::accesses;

@@ -34,7 +34,7 @@ fn add_paths(task: &Task<'_>, path: TaskPath, paths: &mut Vec<TaskPath>) -> Resu
         ≡ paths.old.items ++ map (λ q. path ++ q) (paths_of (task_of task.now))) }
 {
     paths.push(path)?;
-    if let Task::Waits(_, _, left, right) = task {
+    if let Task::Waits(_, left, right) = task {
         add_paths(left.as_ref(), path.child(Turn::Left), paths)?;
         add_paths(right.as_ref(), path.child(Turn::Right), paths)?;
     }

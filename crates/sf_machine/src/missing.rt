@@ -5,20 +5,19 @@ ghost use Rattle.sf_base.specs.declared.value.Value.{Value as V};
 ghost use Rattle.sf_core.specs.Machine.Bad.{IsAbsent, TouchesNoCell};
 ghost use Rattle.sf_core.specs.Machine.Config.{evaluate};
 ghost use Rattle.sf_core.specs.Program.View.{command_of};
+ghost use Rattle.sf_frame.specs.Commons.{common_of};
+ghost use Rattle.sf_frame.specs.Frames.{fixed_of};
+ghost use Rattle.sf_frame.specs.Stores.{store_of};
 ghost use Rattle.sf_heap.specs.Cells.{heap_of};
 ghost use Rattle.sf_machine.specs.Absent.{IsAtAbsent, root_in};
 ghost use Rattle.sf_machine.specs.Checked.Missing.{Misses};
-ghost use Rattle.sf_machine.specs.Configs.{common_of, config_of};
-ghost use Rattle.sf_machine.specs.Stores.{store_of};
-ghost use Rattle.sf_machine.specs.Tasks.{fixed_of};
+ghost use Rattle.sf_machine.specs.Configs.{config_of};
 
-use crate::config::{Common, Config};
+use crate::config::Config;
 use crate::following::{Next, next_of};
-use crate::frame::Frame;
-use crate::store::Store;
-use crate::values::evaluate;
 use sf_base::{TaskPath, Value};
 use sf_core::Command;
+use sf_frame::{Frame, Shared, Store, evaluate};
 use sf_heap::Heap;
 
 /// The value at which the next step of the task at a path looks for a cell where there is none.
@@ -39,7 +38,7 @@ pub fn absent(c: &Config<'_>, task: TaskPath) -> Option<Value>
 }
 
 /// The value at which a command of a frame looks for a cell where there is none.
-fn missed(common: &Common, frame: &Frame<'_>, command: &Command) -> Option<Value>
+fn missed(common: &Shared, frame: &Frame<'_>, command: &Command) -> Option<Value>
     ensures { MatchOption result
         (TouchesNoCell (evaluate (fixed_of frame.now).slots (common_of common.now).store)
         (common_of common.now).heap (command_of command.now) → ⊥)

@@ -5,17 +5,14 @@ ghost use Rattle.sf_core.specs.Machine.Config.{evaluate};
 ghost use Rattle.sf_core.specs.Machine.Enabled.{variable, cell, IsCellAt, IsInRoom, ReadsExpr, ReadsTest, ReadsAll, CommandReads, CommandWrites};
 ghost use Rattle.sf_core.specs.Program.View.{command_of};
 ghost use Rattle.sf_machine.specs.Checked.Noting.{AreFit, Notes};
-ghost use Rattle.sf_machine.specs.Spots.{slot_of};
-ghost use Rattle.sf_machine.specs.Checked.Spots.{SlotFits};
-ghost use Rattle.sf_machine.specs.Stores.{store_of};
-ghost use Rattle.sf_machine.specs.Tasks.{fixed_of, room_of, slots_in};
+ghost use Rattle.sf_frame.specs.Checked.Spots.{SlotFits};
+ghost use Rattle.sf_frame.specs.Frames.{fixed_of, room_of, slots_in};
+ghost use Rattle.sf_frame.specs.Spots.{slot_of};
+ghost use Rattle.sf_frame.specs.Stores.{store_of};
 
-use crate::frame::{Frame, Room};
-use crate::spot::Spot;
-use crate::store::Store;
-use crate::values::evaluate;
 use sf_base::{Slot, Thing, Value, Var};
 use sf_core::{Command, Expr, Test};
+use sf_frame::{Frame, Room, Spot, Store, evaluate};
 use std::alloc::AllocError;
 
 /// Notes the variable in a slot.

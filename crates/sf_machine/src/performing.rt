@@ -5,16 +5,16 @@ ghost use Rattle.std.specs.BTreeSet.{contains};
 ghost use Rattle.std.specs.Ordering.{nat_cmp};
 ghost use Rattle.sf_core.specs.Machine.Config.{adds};
 ghost use Rattle.sf_foot.specs.Starting.{HasWidth};
-ghost use Rattle.sf_machine.specs.Configs.{common_of, config_of};
+ghost use Rattle.sf_frame.specs.Commons.{common_of};
+ghost use Rattle.sf_frame.specs.Checked.Effects.{applied, HasField, Suits};
+ghost use Rattle.sf_machine.specs.Configs.{config_of};
 ghost use Rattle.sf_machine.specs.Events.{event_of};
-ghost use Rattle.sf_machine.specs.Checked.Effects.{applied, HasField, Suits};
 ghost use Rattle.sf_machine.specs.Checked.Performing.{performed};
 
-use crate::applying::apply;
-use crate::config::{Common, Config};
-use crate::effect::Effect;
+use crate::config::Config;
 use crate::event::Event;
 use crate::task::Change;
+use sf_frame::{Effect, Shared, apply};
 use std::alloc::AllocError;
 use std::collections::BTreeSet;
 
@@ -45,7 +45,7 @@ pub(crate) fn perform<'p>(
 /// Makes of what is shared what an event does, and its number used. An `Err` says that memory ran
 /// out, and nothing is changed.
 fn act(
-    common: &mut Common,
+    common: &mut Shared,
     used: &mut BTreeSet<u64>,
     event: &Event,
     effect: Effect,
@@ -63,7 +63,7 @@ fn act(
         → HasWidth count common.new.heap }
 {
     used.insert(event.number)?;
-    if let Err(error) = apply(common, event, effect) {
+    if let Err(error) = apply(common, &event.stamp(), &event.fields, effect) {
         used.remove(&event.number);
         return Err(error);
     }

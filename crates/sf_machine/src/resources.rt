@@ -4,13 +4,12 @@ ghost use Rattle.std.specs.Prelude.{◌≡◌, ◌<◌, ◌≤◌, ◌^◌, cond
 ghost use Rattle.sf_base.specs.HeapStore.{Slot};
 ghost use Rattle.sf_foot.specs.Variables.{value_of};
 ghost use Rattle.sf_machine.specs.Checked.Resources.{counts_of, in_resource, in_resources, var_at};
-ghost use Rattle.sf_machine.specs.Stores.{store_of};
+ghost use Rattle.sf_frame.specs.Stores.{store_of};
 
-use crate::spot::Spot;
-use crate::store::Store;
 use sf_base::{ResId, Var};
 use sf_core::{Program, Resource};
 use sf_foot::Vars;
+use sf_frame::{Spot, Store};
 use std::alloc::AllocError;
 
 /// The variables of all resources of a program come up with those values.

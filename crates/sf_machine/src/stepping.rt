@@ -10,14 +10,13 @@ ghost use Rattle.sf_machine.specs.Reached.{IsReached};
 ghost use Rattle.sf_machine.specs.Checked.Plans.{PlansEvent};
 
 use crate::config::Config;
-use crate::effect::Effect;
 use crate::event::{Event, Stepped};
 use crate::following::{Next, next_of};
-use crate::frame::GoOn;
 use crate::performing::perform;
-use crate::plan::{Plan, plan_command};
+use crate::plan::{Plan, of_stack};
 use crate::task::Change;
 use sf_core::Program;
+use sf_frame::{Change as StackChange, Effect, GoOn, plan_command};
 use std::alloc::AllocError;
 
 /// Makes the step of an event. `Moved` comes exactly where there is a next configuration for the
@@ -63,11 +62,17 @@ fn plan<'p>(p: &'p Program, c: &Config<'p>, e: &Event) -> Result<Plan<'p>, Alloc
         return Ok(Plan::Refused(Stepped::Stale));
     }
     match next {
-        Next::Does(frame, command) => plan_command(p, &c.common, e, frame, command),
-        Next::Leaves(r) => Ok(Plan::Acts(Effect::Free(r), Change::GoOn(GoOn::after()))),
+        Next::Does(frame, command) => {
+            let plan = plan_command(p, &c.common, &e.stamp(), frame, command)?;
+            of_stack(c.common.alloc, plan)
+        }
+        Next::Leaves(r) => Ok(Plan::Acts(
+            Effect::Free(r),
+            Change::Steps(StackChange::GoOn(GoOn::after())),
+        )),
         Next::Returns(g, room) => {
             let all = p.is_init(g);
-            Ok(Plan::Acts(Effect::Close(room, all), Change::Return))
+            Ok(Plan::Acts(Effect::Close(room, all), Change::Steps(StackChange::Return)))
         }
         Next::Joins => Ok(Plan::Acts(Effect::Nothing, Change::Join)),
         Next::Nothing => Ok(Plan::Refused(Stepped::NoTask)),

@@ -1,31 +1,30 @@
 //! The tree of tasks.
 
-ghost use Rattle.std.specs.Prelude.{◌≡◌, ◌↔◌, ◌+◌, ◌≤◌, [], ◌∷◌, Some, None, IsTrue, OnOk, vec_len, vec_capacity};
+ghost use Rattle.std.specs.Prelude.{◌≡◌, ◌↔◌, [], ◌∷◌, Some, None, IsTrue, OnOk};
 ghost use Rattle.std.specs.Option.{option_map};
 ghost use Rattle.sf_core.specs.Machine.Config.{task_at, runs, IsOver};
-ghost use Rattle.sf_machine.specs.Tasks.{task_of, frame_of, frames_of};
-ghost use Rattle.sf_machine.specs.Checked.Tasks.{after, moved, at_path, HasTodoRoom, HasRoom};
+ghost use Rattle.sf_frame.specs.Frames.{stack_of};
+ghost use Rattle.sf_frame.specs.Checked.Frames.{HasRoom as HasStackRoom};
+ghost use Rattle.sf_machine.specs.Tasks.{task_of};
+ghost use Rattle.sf_machine.specs.Checked.Tasks.{moved, at_path, HasRoom};
 
-use crate::frame::{Frame, GoOn};
 use sf_base::Turn;
+use sf_frame::{Change as StackChange, Stack};
 use std::alloc::AllocError;
 use std::mem::replace;
 
-/// A task: it is over, it runs its innermost frame above others, or it waits with them for its two
-/// children. The frame at the bottom of a stack comes first.
+/// A task: it is over, it runs its frames, or it waits with them for its two children.
 #[derive(Drop)]
 pub(crate) enum Task<'p> {
     Over,
-    Runs(Frame<'p>, Vec<Frame<'p>>),
-    Waits(Frame<'p>, Vec<Frame<'p>>, Box<Task<'p>>, Box<Task<'p>>),
+    Runs(Stack<'p>),
+    Waits(Stack<'p>, Box<Task<'p>>, Box<Task<'p>>),
 }
 
 /// What an event makes of a task.
 #[derive(Drop)]
 pub(crate) enum Change<'p> {
-    GoOn(GoOn<'p>),
-    Call(Frame<'p>),
-    Return,
+    Steps(StackChange<'p>),
     Fork(Box<Task<'p>>, Box<Task<'p>>),
     Join,
 }
@@ -37,8 +36,8 @@ impl<'p> Task<'p> {
     {
         match self {
             Task::Over => true,
-            Task::Runs(_, _) => false,
-            Task::Waits(_, _, _, _) => false,
+            Task::Runs(_) => false,
+            Task::Waits(_, _, _) => false,
         }
     }
 
@@ -50,8 +49,8 @@ impl<'p> Task<'p> {
         for turn in path {
             match task {
                 Task::Over => return None,
-                Task::Runs(_, _) => return None,
-                Task::Waits(_, _, left, right) => task = match turn {
+                Task::Runs(_) => return None,
+                Task::Waits(_, left, right) => task = match turn {
                     Turn::Left => left.as_ref(),
                     Turn::Right => right.as_ref(),
                 },
@@ -68,13 +67,13 @@ impl<'p> Task<'p> {
         match path.split_first() {
             None => self.reserve(),
             Some((Turn::Left, rest)) => {
-                if let Task::Waits(_, _, left, _) = self {
+                if let Task::Waits(_, left, _) = self {
                     return left.as_mut().reserve_at(rest);
                 }
                 Ok(())
             }
             Some((Turn::Right, rest)) => {
-                if let Task::Waits(_, _, _, right) = self {
+                if let Task::Waits(_, _, right) = self {
                     return right.as_mut().reserve_at(rest);
                 }
                 Ok(())
@@ -87,11 +86,8 @@ impl<'p> Task<'p> {
         ensures same { task_of self.new ≡ task_of self.old }
         ensures ok { OnOk result (HasRoom [] self.new) }
     {
-        if let Task::Runs(frame, _) = self {
-            frame.todo.reserve(2)?;
-        }
-        if let Task::Runs(_, below) = self {
-            below.reserve(1)?;
+        if let Task::Runs(stack) = self {
+            stack.reserve()?;
         }
         Ok(())
     }
@@ -107,12 +103,12 @@ impl<'p> Task<'p> {
                 *self = task.changed(change);
             }
             Some((Turn::Left, rest)) => {
-                if let Task::Waits(_, _, left, _) = self {
+                if let Task::Waits(_, left, _) = self {
                     left.as_mut().change_at(rest, change);
                 }
             }
             Some((Turn::Right, rest)) => {
-                if let Task::Waits(_, _, _, right) = self {
+                if let Task::Waits(_, _, right) = self {
                     right.as_mut().change_at(rest, change);
                 }
             }
@@ -126,51 +122,26 @@ impl<'p> Task<'p> {
     {
         match self {
             Task::Over => Task::Over,
-            Task::Runs(frame, below) => running(frame, below, change),
-            Task::Waits(frame, below, left, right) => match change {
-                Change::Join => Task::Runs(frame, below),
-                _ => Task::Waits(frame, below, left, right),
+            Task::Runs(stack) => running(stack, change),
+            Task::Waits(stack, left, right) => match change {
+                Change::Join => Task::Runs(stack),
+                _ => Task::Waits(stack, left, right),
             },
         }
     }
 }
 
 /// The task that ran those frames, after a change.
-fn running<'p>(frame: Frame<'p>, below: Vec<Frame<'p>>, change: Change<'p>) -> Task<'p>
-    requires room { HasTodoRoom frame }
-    requires frames { vec_len below + 1 ≤ vec_capacity below }
-    ensures { task_of result
-        ≡ moved change.entry (runs (frame_of frame.entry ∷ frames_of below.entry.items)) }
+fn running<'p>(stack: Stack<'p>, change: Change<'p>) -> Task<'p>
+    requires { HasStackRoom stack }
+    ensures { task_of result ≡ moved change.entry (runs (stack_of stack.entry)) }
 {
     match change {
-        Change::GoOn(on) => Task::Runs(frame.going_on(on), below),
-        Change::Call(callee) => called(frame, below, callee),
-        Change::Return => returned(below),
-        Change::Fork(left, right) => {
-            Task::Waits(frame.going_on(GoOn::after()), below, left, right)
-        }
-        Change::Join => Task::Runs(frame, below),
-    }
-}
-
-/// The task that runs a callee above those frames, of which the innermost called it.
-fn called<'p>(frame: Frame<'p>, mut below: Vec<Frame<'p>>, callee: Frame<'p>) -> Task<'p>
-    requires room { HasTodoRoom frame }
-    requires frames { vec_len below + 1 ≤ vec_capacity below }
-    ensures { task_of result ≡ runs (frame_of callee.entry ∷ after (frame_of frame.entry)
-        ∷ frames_of below.entry.items) }
-{
-    let _ = below.push(frame.going_on(GoOn::after()));
-    Task::Runs(callee, below)
-}
-
-/// The task that runs those frames, or is over where there are none.
-#[tactic(auto, using(crate::proofs::Stacks::frames_snoc))]
-fn returned<'p>(mut below: Vec<Frame<'p>>) -> Task<'p>
-    ensures { task_of result ≡ runs (frames_of below.entry.items) }
-{
-    match below.pop() {
-        Some(frame) => Task::Runs(frame, below),
-        None => Task::Over,
+        Change::Steps(change) => match stack.changed(change) {
+            Some(stack) => Task::Runs(stack),
+            None => Task::Over,
+        },
+        Change::Fork(left, right) => Task::Waits(stack.advanced(), left, right),
+        Change::Join => Task::Runs(stack),
     }
 }

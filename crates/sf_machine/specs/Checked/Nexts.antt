@@ -4,9 +4,18 @@ use Rattle.std.specs.Prelude.{◌≡◌, ◌≢◌, Bool, true, List, [], ◌∷
 use Rattle.sf_core.specs.Machine.Config.{Item, command, leave, Fixed, Frame, Task, runs, waits, IsOver}
 use Rattle.sf_core.specs.Machine.Step.{task_with}
 use Rattle.sf_core.specs.Program.View.{command_of}
+use Rattle.sf_frame.specs.declared.following.Next.{Next as StackNext}
+use Rattle.sf_frame.specs.declared.following.Next.TheVariants.{Does as does, Leaves as leaves, Returns as returns, Done as done}
+use Rattle.sf_frame.specs.Frames.{fixed_of, room_of}
 use Rattle.sf_machine.specs.declared.following.Next.{Next}
 use Rattle.sf_machine.specs.declared.following.Next.TheVariants.{Does, Leaves, Returns, Joins, Nothing}
-use Rattle.sf_machine.specs.Tasks.{fixed_of, room_of}
+
+-- what a task does next whose frames do that
+abbrev pub next_by : StackNext → Next
+next_by (does f one) = Does f one
+next_by (leaves r) = Leaves r
+next_by (returns g room) = Returns g room
+next_by done = Nothing
 
 -- the task has ended, where it is the entry's if so, or waits for a child
 abbrev pub IsIdle : Bool → Task → Type 0

@@ -5,7 +5,7 @@ use Rattle.sf_base.specs.declared.ids.Thing.{Thing as CodeThing}
 use Rattle.sf_base.specs.HeapStore.{Slot}
 use Rattle.sf_core.specs.Machine.Enabled.{Thing, variable}
 use Rattle.sf_machine.specs.Accessing.{IsListed}
-use Rattle.sf_machine.specs.Checked.Spots.{SlotFits}
+use Rattle.sf_frame.specs.Checked.Spots.{SlotFits}
 
 -- the new list has what the old one has, and those things
 abbrev pub Notes : (old new : List CodeThing) → (Thing → Type 0) → Type 0

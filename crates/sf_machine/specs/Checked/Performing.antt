@@ -2,9 +2,9 @@
 -- Ordinary: the parts one by one.
 use Rattle.sf_core.specs.Machine.Config.{Config, adds}
 use Rattle.sf_core.specs.Machine.Step.{Event}
-use Rattle.sf_machine.specs.declared.effect.Effect.{Effect}
+use Rattle.sf_frame.specs.declared.effect.Effect.{Effect}
 use Rattle.sf_machine.specs.declared.task.Change.{Change}
-use Rattle.sf_machine.specs.Checked.Effects.{applied}
+use Rattle.sf_frame.specs.Checked.Effects.{applied}
 use Rattle.sf_machine.specs.Checked.Tasks.{at_path, moved}
 
 -- the configuration after an event with that effect and that change of its task

@@ -1,116 +1,41 @@
 -- What the code plans for an event.
 -- Ordinary: an effect on what is shared and a change of the task, or why there is none.
-use Rattle.std.specs.Prelude.{◌≡◌, ◌≢◌, ℕ, ◌<◌, true, false, length, List, ◌∷◌, Some, None, is_some}
-use Rattle.sf_base.specs.declared.ids.FieldId.{FieldId}
-use Rattle.sf_base.specs.declared.ids.ResId.{ResId}
-use Rattle.sf_base.specs.declared.place.Place.{Place}
-use Rattle.sf_base.specs.HeapStore.{Heap, Slot, own}
-use Rattle.sf_base.specs.declared.value.Value.{Value}
-use Rattle.sf_base.specs.declared.value.Value.TheVariants.{Loc as loc}
-use Rattle.sf_core.specs.declared.assertion.Test.{Test}
-use Rattle.sf_core.specs.declared.command.Expr.{Expr}
-use Rattle.sf_core.specs.declared.command.Occurrence.{Occurrence}
-use Rattle.sf_core.specs.Machine.Config.{Item, command, Fixed, Frame, Task, Common, Config, task_at}
-use Rattle.sf_core.specs.Machine.Enabled.{variable, CommandWrites}
-use Rattle.sf_core.specs.Machine.Step.{Event, Does, TaskStep, task_with}
-use Rattle.sf_core.specs.Program.Syntax.{Call, Command, assign, look_up, mutate, new, dispose, if, while, call, fork, with, Block, Assertion, Program}
-use Rattle.sf_heap.specs.Cells.{FieldValues, cell_of}
-use Rattle.sf_machine.specs.declared.event.Stepped.TheVariants.{Moved}
-use Rattle.sf_machine.specs.declared.effect.Effect.{Effect}
+use Rattle.std.specs.Prelude.{◌≡◌, ◌≢◌, false, Some, [], ◌∷◌}
+use Rattle.sf_core.specs.Machine.Config.{Task, Config, runs, task_at}
+use Rattle.sf_core.specs.Machine.Step.{Event, TaskStep}
+use Rattle.sf_core.specs.Program.Syntax.{Program}
+use Rattle.sf_frame.specs.declared.effect.Effect.{Effect}
+use Rattle.sf_frame.specs.declared.effect.Effect.TheVariants.{OpenBoth}
+use Rattle.sf_frame.specs.declared.plan.Plan.{Plan as StackPlan}
+use Rattle.sf_frame.specs.declared.plan.Plan.TheVariants.{Acts as acts, Forks as forks, Refused as refused}
+use Rattle.sf_frame.specs.declared.refusal.Refusal.{Refusal}
+use Rattle.sf_frame.specs.declared.refusal.Refusal.TheVariants.{Absent as absent, Waiting as waiting, Stale as stale, TooDeep as too_deep}
+use Rattle.sf_frame.specs.Checked.Effects.{applied, EffectWithin, Suits}
+use Rattle.sf_frame.specs.Frames.{frame_of}
+use Rattle.sf_machine.specs.declared.event.Stepped.{Stepped}
+use Rattle.sf_machine.specs.declared.event.Stepped.TheVariants.{Moved, Absent, Waiting, Stale, TooDeep}
 use Rattle.sf_machine.specs.declared.plan.Plan.{Plan}
 use Rattle.sf_machine.specs.declared.plan.Plan.TheVariants.{Acts, Refused}
 use Rattle.sf_machine.specs.declared.task.Change.{Change}
-use Rattle.sf_machine.specs.Answers.{Answers, CommandRefuses}
-use Rattle.sf_machine.specs.Checked.Effects.{applied, EffectWithin, Suits}
+use Rattle.sf_machine.specs.declared.task.Change.TheVariants.{Steps, Fork}
+use Rattle.sf_machine.specs.Answers.{Answers}
 use Rattle.sf_machine.specs.Checked.Tasks.{moved}
+use Rattle.sf_machine.specs.Tasks.{task_of}
 
--- the procedures are there that the command calls
-abbrev pub HasCallees : Program → Command → Type 0
-HasCallees p (call place c) = c.callee.0 < length p.procedures
-HasCallees p (fork place c d) = (c.callee.0 < length p.procedures) × (d.callee.0 < length p.procedures)
-HasCallees p _ = Unit {0}
+-- what a step answers for that reason
+abbrev pub answer_of : Refusal → Stepped
+answer_of (absent v) = Absent v
+answer_of (waiting r) = Waiting r
+answer_of stale = Stale
+answer_of too_deep = TooDeep
 
--- the field that the command sets is one of the program's
-abbrev pub SetsField : Program → Command → Type 0
-SetsField p (mutate place e field v) = field.0 < length p.fields
-SetsField p _ = Unit {0}
-
--- what the event of a command rests on: the variables that it writes are there, and so are the
--- procedures that it calls and the field that it sets, and no variable is that has the event's number
-pub record IsReady (p : Program) (ev : Event) (s : Common) (f : Fixed) (one : Command) : Type 0 where
-  pub written : (slot : Slot) → CommandWrites f.slots s.store one (variable slot)
-      → is_some (s.store slot) ≡ true
-  pub callees : HasCallees p one
-  pub field : SetsField p one
-  pub fresh : (i : ℕ) → s.store (own ev.number i) ≡ None
-
--- the plan is that of a command's event
-abbrev pub PlansCommand : Program → Event → Common → Fixed → (below : List Frame) → Command
-    → (rest : List Item) → Plan → Type 0
-PlansCommand p ev s f below one rest (Acts effect change) =
-    Does p ev s f below one rest (applied ev effect s) (moved change (task_with f (command one ∷ rest) below))
-    × Suits ev effect s × EffectWithin p effect
-PlansCommand p ev s f below one rest (Refused why) = CommandRefuses ev s f one why
-
--- whatever else the task has to do
-abbrev pub Plans : Program → Event → Common → Fixed → Command → Plan → Type 0
-Plans p ev s f one plan = (below : List Frame) (rest : List Item) → PlansCommand p ev s f below one rest plan
-
--- of a command that speaks of no procedure, by an event that makes no cell
-abbrev pub PlansOf : Common → Fixed → (Place → Command) → Plan → Type 0
-PlansOf s f one plan = (p : Program) (ev : Event) (place : Place) → Plans p ev s f (one place) plan
-
--- of `x = E`
-abbrev pub PlansAssign : Common → Fixed → Occurrence → Expr → Plan → Type 0
-PlansAssign s f x e = PlansOf s f (λ place. assign place x e)
-
--- of `x = E->f`
-abbrev pub PlansLookUp : Common → Fixed → Occurrence → Expr → FieldId → Plan → Type 0
-PlansLookUp s f x e field = PlansOf s f (λ place. look_up place x e field)
-
--- of `E->f = F`, in a program that has the field
-abbrev pub PlansMutate : Common → Fixed → Expr → FieldId → Expr → Plan → Type 0
-PlansMutate s f e field v plan = (p : Program) (ev : Event) (place : Place) → field.0 < length p.fields
-    → Plans p ev s f (mutate place e field v) plan
-
--- of `x = new()`
-abbrev pub PlansNew : Event → Common → Fixed → Occurrence → Plan → Type 0
-PlansNew ev s f x plan = (p : Program) (place : Place) → Plans p ev s f (new place x) plan
-
--- of `dispose(E)`
-abbrev pub PlansDispose : Common → Fixed → Expr → Plan → Type 0
-PlansDispose s f e = PlansOf s f (λ place. dispose place e)
-
--- of `if (B) C else D`
-abbrev pub PlansIf : Common → Fixed → Test Expr → (this that : Block) → Plan → Type 0
-PlansIf s f test this that = PlansOf s f (λ place. if place test this that)
-
--- of `while (B) C`, whatever its invariant is
-abbrev pub PlansWhile : Common → Fixed → Test Expr → Block → Plan → Type 0
-PlansWhile s f test body plan = (kept : Assertion) → PlansOf s f (λ place. while place test kept body) plan
-
--- of `with r when (B) C`
-abbrev pub PlansWith : Common → Fixed → ResId → Test Expr → Block → Plan → Type 0
-PlansWith s f r test body = PlansOf s f (λ place. with place r test body)
-
--- of `f(x; E)`
-abbrev pub PlansCall : Program → Event → Common → Fixed → Call → Plan → Type 0
-PlansCall p ev s f c plan = (place : Place) → Plans p ev s f (call place c) plan
-
--- of `f(x; E) || g(y; F)`
-abbrev pub PlansFork : Program → Event → Common → Fixed → (left right : Call) → Plan → Type 0
-PlansFork p ev s f c d plan = (place : Place) → Plans p ev s f (fork place c d) plan
-
--- the value is the location of a cell with those values in its fields
-pub record IsCellOf (heap : Heap) (root : Value) (values : FieldValues) : Type 0 where
-  pub location : ℕ
-  pub is : root ≡ loc location
-  pub there : heap location ≡ Some (cell_of values)
-
--- the value is that location, where a cell is
-pub record IsCellAt (heap : Heap) (root : Value) (location : ℕ) : Type 0 where
-  pub is : root ≡ loc location
-  pub there : is_some (heap location) ≡ true
+-- the plan is that one for a stack of frames, with the frames of a fork's children as tasks of their own
+abbrev pub IsPlanOf : StackPlan → Plan → Type 0
+IsPlanOf (acts effect change) (Acts e (Steps c)) = (e ≡ effect) × (c ≡ change)
+IsPlanOf (forks left right) (Acts e (Fork one two)) = (e ≡ OpenBoth left.opening right.opening)
+    × (task_of one.value ≡ runs (frame_of left.frame ∷ [])) × (task_of two.value ≡ runs (frame_of right.frame ∷ []))
+IsPlanOf (refused why) (Refused answer) = answer ≡ answer_of why
+IsPlanOf _ _ = ⊥
 
 -- the event's number is new, and the effect and the change are what it makes of a task that is
 -- there

@@ -3,7 +3,7 @@ use Rattle.sf_core.specs.Machine.Config.{Room, in_room}
 use Rattle.sf_core.specs.Program.ProgramView.{program_of}
 use Rattle.sf_core.specs.Program.View.{command_of}
 use Rattle.sf_machine.specs.Configs.{config_of}
-use Rattle.sf_machine.specs.Tasks.{fixed_of, room_of}
+use Rattle.sf_frame.specs.Frames.{fixed_of, room_of}
 use Rattle.sf_machine.proofs.Enabling.{accesses_does, accesses_joins, accesses_leaves, accesses_none, accesses_returns, accesses_shut, idle_stays, none_there, there_is, used_fits}
 use Rattle.sf_machine.proofs.accessing.accesses.Goals as goal
 use Rattle.sf_machine.proofs.accessing.accesses.Goals.{in-Some+in-Does+then-not-is_shut+in_ok-note_reads-in-Does+in_ok-note_writes-in-Does, in-Some+in-Does+else-not-is_shut, in-Some+in-Returns+in_ok-note_room-in-Returns, in-Some+in-Leaves, in-Some+in-Joins, in-Some+in-Nothing, in_default}

@@ -7,8 +7,8 @@ use Rattle.sf_core.specs.Program.ProgramView.{program_of}
 use Rattle.sf_core.specs.Program.View.{procedure_of}
 use Rattle.sf_heap.specs.Cells.{heap_of}
 use Rattle.sf_machine.specs.Checked.Firsts.{beginning_at}
-use Rattle.sf_machine.specs.Configs.{held_of}
-use Rattle.sf_machine.proofs.Plans.{procedure_there}
+use Rattle.sf_frame.specs.Commons.{held_of}
+use Rattle.sf_frame.proofs.Plans.{procedure_there}
 use Rattle.sf_machine.proofs.Reaching.{reached_begin}
 use Rattle.sf_machine.proofs.Tables.{begins_as, beginning_kept, holders_same, store_all, used_first}
 use Rattle.sf_machine.proofs.beginning.begin.Goals as goal

@@ -1,6 +1,6 @@
 use Rattle.std.proofs.Common.{◌≡◌, [], cond, ltb, None, Some}
 use Rattle.sf_base.specs.declared.ids.ResId.{ResId}
-use Rattle.sf_machine.specs.Configs.{held_of}
+use Rattle.sf_frame.specs.Commons.{held_of}
 use Rattle.sf_machine.proofs.beginning.first_holders.Given as goal
 
 -- the first so many are held

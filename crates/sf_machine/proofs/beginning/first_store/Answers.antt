@@ -3,8 +3,8 @@ use Rattle.sf_base.specs.declared.value.Value.{Value}
 use Rattle.sf_base.specs.declared.value.Value.TheVariants.{Nil as nil}
 use Rattle.sf_core.specs.Machine.Config.{in_room}
 use Rattle.sf_core.specs.Machine.Step.{index_of}
-use Rattle.sf_machine.specs.Stores.{store_of}
-use Rattle.sf_machine.specs.Checked.Tasks.{first_slots}
+use Rattle.sf_frame.specs.Stores.{store_of}
+use Rattle.sf_frame.specs.Checked.Frames.{first_slots}
 use Rattle.sf_machine.proofs.Tables.{first_all}
 use Rattle.sf_machine.proofs.beginning.first_store.Goals as goal
 

@@ -1,4 +1,4 @@
-use Rattle.std.proofs.Common.{◌≡◌, ◌∙◌, ◌∷◌, [], Some, ap, arith, length, sym}
+use Rattle.std.proofs.Common.{◌≡◌, ◌∙◌, ◌∷◌, [], Some, ap, arith, sym}
 use Rattle.sf_base.proofs.Options.{some-once}
 use Rattle.sf_core.specs.Machine.Config.{runs}
 use Rattle.sf_core.specs.Machine.Start.{Beginning, entry_frame, first_frames, init_frame}
@@ -6,7 +6,6 @@ use Rattle.sf_core.specs.Machine.Step.{procedure_at}
 use Rattle.sf_core.specs.Program.ProgramView.{program_of}
 use Rattle.sf_core.specs.Program.View.{procedure_of}
 use Rattle.sf_machine.specs.Checked.Firsts.{beginning_at, beginning_with}
-use Rattle.sf_machine.proofs.Tables.{tasks_first, tasks_two}
 use Rattle.sf_machine.proofs.beginning.first_task.Goals as goal
 
 pub entry_frame-requires-clause-few : goal.entry_frame-requires-clause-few
@@ -29,17 +28,16 @@ init_frame-requires-clause-references c =
     let within = c.args.p.now.formed.procedures _ _ c.proc-in-Some.ensures.meaning in
     omega (arith, within.declared)
 
-pub returns-in_ok-push-in-Some : goal.returns-in_ok-push-in-Some
-returns-in_ok-push-in-Some c = λ g e.
+pub returns-in_ok-above-in-Some : goal.returns-in_ok-above-in-Some
+returns-in_ok-above-in-Some c = λ g e.
     let p = program_of c.args.p.now in
     let n = c.in-Some.n in
     let entry = procedure_of c.proc.result.now in
     let top = procedure_of c.proc-in-Some.result.now in
     let same : entry ≡ g = some-once (procedure_at p c.args.f) entry g c.proc.ensures.meaning e in
     let begins : beginning_at p c.args.init ≡ beginning_at p (Some n) = ap (beginning_at p) c.in-Some.is in
-    tasks_two c.in_ok-top-in-Some.top c.in_ok-entry.entry (init_frame n top c.own_count.result)
-    (entry_frame c.args.f entry) c.new-below.result.items c.push.new.self.items c.in_ok-top-in-Some.ensures
-    c.in_ok-entry.ensures c.new-below.ensures.items c.in_ok-push-in-Some.ensures.items
+    ap runs c.in_ok-above-in-Some.ensures
+    ∙ (λ i. runs (c.in_ok-top-in-Some.ensures i ∷ c.in_ok-entry.ensures i ∷ []))
     ∙ (λ i. runs (init_frame n top (c.own_count.ensures.count g e i) ∷ entry_frame c.args.f (same i) ∷ []))
     ∙ sym (ap (λ (b : Beginning). runs (first_frames b c.args.f g))
     (begins ∙ ap (beginning_with n) c.proc-in-Some.ensures.meaning))
@@ -49,6 +47,6 @@ returns-in-None c = λ g e.
     let p = program_of c.args.p.now in
     let entry = procedure_of c.proc.result.now in
     let same : entry ≡ g = some-once (procedure_at p c.args.f) entry g c.proc.ensures.meaning e in
-    tasks_first c.in_ok-entry.entry (entry_frame c.args.f g) c.new.result.items
-    (c.in_ok-entry.ensures ∙ ap (entry_frame c.args.f) same) c.new.ensures.items
+    ap runs c.of.ensures ∙ (λ i. runs (c.in_ok-entry.ensures i ∷ []))
+    ∙ (λ i. runs (entry_frame c.args.f (same i) ∷ []))
     ∙ sym (ap (λ (b : Beginning). runs (first_frames b c.args.f g)) (ap (beginning_at p) c.in-None.is))

@@ -1,5 +1,5 @@
 use Rattle.sf_base.specs.HeapStore.{own}
-use Rattle.sf_machine.specs.Stores.{store_of}
+use Rattle.sf_frame.specs.Stores.{store_of}
 use Rattle.sf_machine.proofs.Endings.{values_more}
 use Rattle.sf_machine.proofs.finishing.own_values.Goals as goal
 

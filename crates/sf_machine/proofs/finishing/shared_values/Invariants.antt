@@ -1,6 +1,6 @@
 use Rattle.sf_base.specs.HeapStore.{shared}
 use Rattle.sf_machine.specs.Checked.Endings.{AreValues}
-use Rattle.sf_machine.specs.Stores.{store_of}
+use Rattle.sf_frame.specs.Stores.{store_of}
 use Rattle.sf_machine.proofs.finishing.shared_values.Given as goal
 
 -- so many are there

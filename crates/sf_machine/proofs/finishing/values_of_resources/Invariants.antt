@@ -1,6 +1,6 @@
 use Rattle.sf_machine.specs.Checked.Endings.{AreRows}
 use Rattle.sf_machine.specs.Checked.Resources.{counts_of}
-use Rattle.sf_machine.specs.Stores.{store_of}
+use Rattle.sf_frame.specs.Stores.{store_of}
 use Rattle.sf_machine.proofs.finishing.values_of_resources.Given as goal
 
 -- those of so many resources are there

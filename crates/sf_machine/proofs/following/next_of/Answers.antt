@@ -1,7 +1,9 @@
-use Rattle.std.proofs.Common.{ap, subst}
-use Rattle.sf_core.specs.Machine.Config.{IsOver}
-use Rattle.sf_machine.specs.Tasks.{task_of, frames_of}
-use Rattle.sf_machine.proofs.NextTodo.{frames_alone}
+use Rattle.std.proofs.Common.{ap, subst, sym}
+use Rattle.sf_core.specs.Machine.Config.{runs, IsOver}
+use Rattle.sf_frame.specs.Frames.{stack_of}
+use Rattle.sf_machine.specs.Checked.Nexts.{IsNext}
+use Rattle.sf_machine.specs.Tasks.{task_of}
+use Rattle.sf_machine.proofs.Steps.{next_runs}
 use Rattle.sf_machine.proofs.following.next_of.Goals as goal
 
 pub returns-then-is_over-2 : goal.returns-then-is_over-2
@@ -16,5 +18,6 @@ returns-then-is_over-2 c = (
 )
 
 pub returns-in-Runs : goal.returns-in-Runs
-returns-in-Runs c = rw c.in-Runs.is (c.frame_next.ensures (frames_of c.in-Runs.below.items)
-    (frames_alone c.is_empty.result c.in-Runs.below.items _ c.is_empty.ensures c.as_slice.ensures.value))
+returns-in-Runs c = rw c.in-Runs.is
+    (subst (IsNext (runs (stack_of c.in-Runs.stack)) c.args.is_entry) (sym c.of_stack.ensures)
+    (next_runs (stack_of c.in-Runs.stack) c.args.is_entry c.next_of.result c.next_of.ensures))

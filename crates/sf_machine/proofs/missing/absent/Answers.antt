@@ -1,6 +1,6 @@
 use Rattle.sf_core.specs.Program.View.{command_of}
 use Rattle.sf_machine.specs.Configs.{config_of}
-use Rattle.sf_machine.specs.Tasks.{fixed_of}
+use Rattle.sf_frame.specs.Frames.{fixed_of}
 use Rattle.sf_machine.proofs.Enabling.{there_is}
 use Rattle.sf_machine.proofs.TaskPaths.{absent_does}
 use Rattle.sf_machine.proofs.missing.absent.Goals as goal

@@ -2,7 +2,7 @@ use Rattle.std.proofs.Common.{List, sym, subst, inr}
 use Rattle.sf_core.specs.declared.command.Expr.{Expr}
 use Rattle.sf_core.specs.Machine.Enabled.{ReadsAll, variable}
 use Rattle.sf_machine.specs.Checked.Noting.{Notes}
-use Rattle.sf_machine.specs.Tasks.{fixed_of}
+use Rattle.sf_frame.specs.Frames.{fixed_of}
 use Rattle.sf_machine.proofs.Notes.{noted_then}
 use Rattle.sf_machine.proofs.noting.note_all.Goals as goal
 

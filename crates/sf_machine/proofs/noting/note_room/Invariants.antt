@@ -1,6 +1,6 @@
 use Rattle.sf_core.specs.Machine.Enabled.{IsInRoom}
 use Rattle.sf_machine.specs.Checked.Noting.{Notes}
-use Rattle.sf_machine.specs.Checked.Tasks.{first_slots}
+use Rattle.sf_frame.specs.Checked.Frames.{first_slots}
 use Rattle.sf_machine.proofs.noting.note_room.Given as goal
 
 -- the first slots are noted

@@ -1,8 +1,8 @@
 use Rattle.std.proofs.Common.{◌∙◌, ap, sym}
 use Rattle.sf_core.specs.Machine.Enabled.{variable}
 use Rattle.sf_machine.specs.Accessing.{thing_of}
-use Rattle.sf_machine.specs.declared.spot.Spot.{Spot}
-use Rattle.sf_machine.specs.Spots.{slot_of}
+use Rattle.sf_frame.specs.declared.spot.Spot.{Spot}
+use Rattle.sf_frame.specs.Spots.{slot_of}
 use Rattle.sf_machine.proofs.Notes.{noted_at}
 use Rattle.sf_machine.proofs.noting.note_spot.Goals as goal
 use Rattle.sf_machine.proofs.noting.note_spot.Goals.{in-Shared, in-Own}

@@ -2,7 +2,7 @@ use Rattle.std.proofs.Common.{◌≡◌, cond, Some}
 use Rattle.sf_base.specs.HeapStore.{Slot}
 use Rattle.sf_foot.specs.Variables.{value_of}
 use Rattle.sf_machine.specs.Checked.Resources.{in_resource, var_at}
-use Rattle.sf_machine.specs.Stores.{store_of}
+use Rattle.sf_frame.specs.Stores.{store_of}
 use Rattle.sf_machine.proofs.resources.add_resource.Given as goal
 
 -- so many have come up

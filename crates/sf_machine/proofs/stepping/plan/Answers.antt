@@ -1,11 +1,14 @@
-use Rattle.std.proofs.Common.{◌∙◌, sym, refl}
+use Rattle.std.proofs.Common.{◌∙◌, ℕ, sym, refl, subst}
+use Rattle.sf_core.specs.Machine.Step.{Event}
+use Rattle.sf_frame.specs.Checked.Plans.{IsReady, Plans}
+use Rattle.sf_heap.specs.Cells.{cell_of}
 use Rattle.sf_core.specs.Program.ProgramView.{program_of}
 use Rattle.sf_core.specs.Program.View.{command_of}
 use Rattle.sf_machine.specs.Configs.{config_of}
 use Rattle.sf_machine.specs.Events.{event_of}
-use Rattle.sf_machine.specs.Tasks.{fixed_of}
+use Rattle.sf_frame.specs.Frames.{fixed_of}
 use Rattle.sf_machine.proofs.Enabling.{in_order, there_is}
-use Rattle.sf_machine.proofs.Plans.{ok_map}
+use Rattle.sf_frame.proofs.Plans.{ok_map}
 use Rattle.sf_machine.proofs.Ready.{ready}
 use Rattle.sf_machine.proofs.Steps.{going_next, idle_rests, none_answers, plan_does, plan_joins, plan_leaves, plan_returns, plan_stale}
 use Rattle.sf_machine.proofs.stepping.plan.Goals as goal
@@ -24,20 +27,27 @@ returns-then-contains c = plan_stale (program_of c.args.p.now) (event_of c.args.
     c.next_of-next.ensures c.in_default-next.not-Nothing) (sym c.contains.ensures ∙ c.if-contains.true)
 
 pub plan_command-requires : goal.plan_command-requires
-plan_command-requires c = ready (program_of c.args.p.now) c.requires.starts.procedure (config_of c.args.c.now)
+plan_command-requires c =
+    subst (λ (n : ℕ). IsReady (program_of c.args.p.now) n (config_of c.args.c.now).common
+    (fixed_of c.in-Does.frame.now) (command_of c.in-Does.command.now)) (sym c.stamp.ensures.number)
+    (ready (program_of c.args.p.now) c.requires.starts.procedure (config_of c.args.c.now)
     (event_of c.args.e.now) (fixed_of c.in-Does.frame.now) c.in-Does.ensures.0 (command_of c.in-Does.command.now)
     c.in-Does.ensures.1
     (in_order (program_of c.args.p.now) (config_of c.args.c.now) c.args.p.now.formed c.requires)
     (sym c.contains.ensures ∙ c.if-contains.false)
-    (there_is _ _ c.args.e.now.task c.turns.result.now _ c.in-Some.ensures c.turns.ensures c.in-Does.ensures.2)
+    (there_is _ _ c.args.e.now.task c.turns.result.now _ c.in-Some.ensures c.turns.ensures c.in-Does.ensures.2))
 
-pub returns-in-Does : goal.returns-in-Does
-returns-in-Does c = ok_map c.plan_command.result c.plan_command.ensures (λ plan plans.
+pub returns-in_ok-plan-in-Does : goal.returns-in_ok-plan-in-Does
+returns-in_ok-plan-in-Does c = ok_map c.of_stack.result c.of_stack.ensures (λ plan same.
     plan_does (program_of c.args.p.now) (event_of c.args.e.now) (config_of c.args.c.now)
-    (fixed_of c.in-Does.frame.now) c.in-Does.ensures.0 (command_of c.in-Does.command.now) c.in-Does.ensures.1 plan
+    (fixed_of c.in-Does.frame.now) c.in-Does.ensures.0 (command_of c.in-Does.command.now) c.in-Does.ensures.1
+    c.in_ok-plan-in-Does.plan plan
     (sym c.contains.ensures ∙ c.if-contains.false)
     (there_is _ _ c.args.e.now.task c.turns.result.now _ c.in-Some.ensures c.turns.ensures c.in-Does.ensures.2)
-    plans)
+    (subst (λ (ev : Event). Plans (program_of c.args.p.now) ev (config_of c.args.c.now).common
+    (fixed_of c.in-Does.frame.now) (command_of c.in-Does.command.now) c.in_ok-plan-in-Does.plan)
+    c.stamp.ensures.event (c.in_ok-plan-in-Does.ensures (cell_of c.args.e.now.fields)))
+    same)
 
 pub returns-in-Leaves : goal.returns-in-Leaves
 returns-in-Leaves c = plan_leaves (program_of c.args.p.now) c.requires.starts.procedure (event_of c.args.e.now)

@@ -2,7 +2,7 @@ use Rattle.std.proofs.Common.{◌<◌, ◌∙◌, [], ap, sym, drop, length, len
 use Rattle.sf_core.specs.Machine.Config.{task_at}
 use Rattle.sf_machine.specs.Tasks.{task_of}
 use Rattle.sf_machine.specs.declared.task.Task.{Task}
-use Rattle.sf_machine.proofs.Stacks.{at_leaf}
+use Rattle.sf_machine.proofs.TaskPaths.{at_leaf}
 use Rattle.sf_machine.proofs.task.Task.at.Goals as goal
 
 pub returns-in-Over : goal.returns-in-Over

@@ -1,0 +1,11 @@
+pub mod Calls
+pub mod Ended
+pub mod Entries
+pub mod HeapChanges
+pub mod NextTodo
+pub mod Opened
+pub mod Plans
+pub mod RoomSlots
+pub mod Spots
+pub mod Stacks
+pub mod Views

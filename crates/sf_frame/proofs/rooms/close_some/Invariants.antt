@@ -1,0 +1,11 @@
+use Rattle.std.proofs.Common.{◌≡◌, cond, None}
+use Rattle.sf_base.specs.HeapStore.{Slot}
+use Rattle.sf_core.specs.Machine.Config.{in_room}
+use Rattle.sf_frame.specs.Stores.{store_of}
+use Rattle.sf_frame.specs.Checked.Frames.{first_slots}
+use Rattle.sf_frame.proofs.rooms.close_some.Given as goal
+
+-- so many slots have vanished
+abbrev pub invariant-loop-i : goal.invariant-loop-i
+invariant-loop-i l = (slot : Slot) → store_of l.store slot
+    ≡ cond (in_room (first_slots l.room.event l.room.first l.i) slot) None (store_of l.initial.store slot)

@@ -1,0 +1,9 @@
+-- What is checked and need not be believed: definitions that only proofs and the clauses of inner functions use.
+-- One module for each.
+pub mod Calls
+pub mod Effects
+pub mod Entries
+pub mod Frames
+pub mod Nexts
+pub mod Plans
+pub mod Spots

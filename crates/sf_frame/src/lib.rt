@@ -1,0 +1,51 @@
+//! One code that steps: the frames of a task, and what its next event makes of them and of what it
+//! shares with others. The machine of whole configurations stands on it.
+//!
+//! - `spot`: where the store keeps the values of variables.
+//! - `store`, `rooms`: the values of variables by their slots, and rooms of slots that come up.
+//! - `frame`: frames, and what they have still to do. `stack`: the frames of a task.
+//! - `shared`: the cells, the values of variables, and who holds the resources.
+//! - `values`: the values of expressions and tests.
+//! - `entry`: the first frames of a run. `calling`: the frames of callees, and their values.
+//! - `following`: what a stack of frames does next.
+//! - `stamp`: events. `refusal`: why the event of a command is none.
+//! - `plan`: what the event of a command would make, or why it is none.
+//! - `effect`, `cells`, `applying`: what an event makes of what is shared.
+//!
+//! `specs/` says which frames of the definitions a `Stack` has (Frames), which common state a
+//! `Shared` is (Commons, Spots, Stores), which event a `Stamp` is of (Stamps), and why an event is
+//! none (Refusals).
+#![tactic(auto)]
+
+mod applying;
+mod calling;
+mod cells;
+mod effect;
+mod entry;
+mod following;
+mod frame;
+mod plan;
+mod refusal;
+mod rooms;
+mod shared;
+mod spot;
+mod stack;
+mod stamp;
+mod store;
+mod values;
+
+pub use applying::apply;
+pub use calling::Callee;
+pub use effect::{Effect, Opening};
+pub use entry::{entry_frame, init_frame};
+pub use following::{Next, next_of};
+pub use frame::{Frame, GoOn, Room};
+pub use plan::{Plan, plan_command};
+pub use refusal::Refusal;
+pub use rooms::{close, open};
+pub use shared::Shared;
+pub use spot::Spot;
+pub use stack::{Change, Stack};
+pub use stamp::Stamp;
+pub use store::Store;
+pub use values::{evaluate, is_true};

@@ -1,8 +1,0 @@
-use Rattle.std.proofs.Common.{take}
-use Rattle.sf_machine.specs.Checked.Calls.{AreReferences}
-use Rattle.sf_machine.specs.Tasks.{fixed_of}
-use Rattle.sf_machine.proofs.calling.spots_of.Given as goal
-
--- so many have their slots
-abbrev pub invariant-loop-x : goal.invariant-loop-x
-invariant-loop-x l = AreReferences (fixed_of l.caller).slots (take l.x-index l.references) l.spots.items
