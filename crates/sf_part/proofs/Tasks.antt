@@ -23,7 +23,7 @@ stand-runs (Some (waits fs one two)) frames e =
     let h : waiting fs ≡ running frames = same_Some (waiting fs) (running frames) e in absurd (cc)
 
 -- a task that stands waiting waits for some children
-stand-waits : (o : Option Task) (frames : List Frame) → option_map stand_of o ≡ Some (waiting frames)
+pub stand-waits : (o : Option Task) (frames : List Frame) → option_map stand_of o ≡ Some (waiting frames)
     → (one : Task) × (two : Task) × (o ≡ Some (waits frames one two))
 stand-waits None frames e = absurd (cc)
 stand-waits (Some (runs fs)) frames e =
