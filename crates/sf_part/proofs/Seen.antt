@@ -28,7 +28,8 @@ use Rattle.sf_part.proofs.Unions.{union-join, union-second}
 pub running_parts_run : RunningPartsRun
 unfolding RunningPartsRun
 running_parts_run before after a contents c frames w e =
-    tasks-runs c.tasks a (map own_stand (before ++ after)) frames (whole-focus before after a contents c w).tasks e
+    tasks-runs c.tasks a (map own_stand (before ++ after)) frames
+    (whole-focus before after a contents c w).tasks e
 
 pub waiting_parts_wait : WaitingPartsWait
 unfolding WaitingPartsWait
@@ -38,10 +39,12 @@ waiting_parts_wait before after a contents c frames w e =
     (splits-has_left a.task a.stand v.tasks.1 (entry-here a.task a.stand) ∙ ap Some e)
 
 -- what is found in a tree of one task is found at its root
-found-at : (frames : List Frame) (path : Path) (s : Stand) → stands (runs frames) path ≡ Some s → path ≡ []
+found-at : (frames : List Frame) (path : Path) (s : Stand) → stands (runs frames) path ≡ Some s
+    → path ≡ []
 found-at frames path s e = go (task_at path (runs frames)) refl e
   where
-    go : (o : Option Task) → task_at path (runs frames) ≡ o → option_map stand_of o ≡ Some s → path ≡ []
+    go : (o : Option Task) → task_at path (runs frames) ≡ o → option_map stand_of o ≡ Some s
+        → path ≡ []
     go None is h = absurd (none-some s h)
     go (Some t) is h = task_at-running path frames t is
 
@@ -54,7 +57,8 @@ running_entries_are_alone a (b ∷ others) contents c frames w top e =
     subst (λ z. task_at z c.tasks ≡ Some (runs frames)) top
     (tasks-runs c.tasks a (map own_stand (b ∷ others)) frames w.tasks e) in
     let tree : c.tasks ≡ runs frames = same_Some c.tasks (runs frames) root in
-    let there : x b.task ≡ Some b.stand = splits-has_left b.task b.stand t (entry-here b.task b.stand) in
+    let there : x b.task ≡ Some b.stand = splits-has_left b.task b.stand t
+    (entry-here b.task b.stand) in
     let at_root : b.task ≡ [] = found-at frames b.task b.stand
     (sym (ap (λ z. stands z b.task) tree) ∙ splits-has_right b.task b.stand s there) in
     let gone : x a.task ≡ None = splits-lacks_right a.task a.stand s (entry-here a.task a.stand) in
@@ -63,7 +67,8 @@ running_entries_are_alone a (b ∷ others) contents c frames w top e =
 pub parts_hold : PartsHold
 unfolding PartsHold
 parts_hold before after a contents c r w h =
-    splits-has_left r a.task (whole-focus before after a contents c w).held.1 (ap (λ b. cond b (Some a.task) None) h)
+    splits-has_left r a.task (whole-focus before after a contents c w).held.1
+    (ap (λ b. cond b (Some a.task) None) h)
 
 -- a test is true in both of two stores that have the same in the slots that it reads
 test-alike : (slots : Var → Slot) (one two : Store) (test : Test Expr)
@@ -73,7 +78,8 @@ test-alike slots one two True h t = tt
 test-alike slots one two (Equal x y) h t =
     sym (evaluate-same slots one two x (λ slot r. h slot (inl r))) ∙ t
     ∙ evaluate-same slots one two y (λ slot r. h slot (inr r))
-test-alike slots one two (Differ x y) h t = λ e. t (evaluate-same slots one two x (λ slot r. h slot (inl r)) ∙ e
+test-alike slots one two (Differ x y) h t = λ e. t
+    (evaluate-same slots one two x (λ slot r. h slot (inl r)) ∙ e
     ∙ sym (evaluate-same slots one two y (λ slot r. h slot (inr r))))
 
 pub conditions_are_seen_alike : ConditionsAreSeenAlike
@@ -83,10 +89,13 @@ conditions_are_seen_alike before after a both earlier later k c slots test w han
     let contents = earlier ++ later in
     let v = whole-focus_content (a ∷ others) earlier later k c
     (whole-focus before after a (earlier ++ k ∷ later) c w) in
-    let u = union-join c.common.store both.store a.store k.store (map part_store others ++ map content_store contents)
-    hand.store (union-second a.store (map part_store others) k.store (map content_store contents) c.common.store
+    let u = union-join c.common.store both.store a.store k.store
+    (map part_store others ++ map content_store contents)
+    hand.store (union-second a.store (map part_store others) k.store (map content_store contents)
+    c.common.store
     v.store) in
-    let same : (slot : Slot) → ReadsTest slots test (variable slot) → both.store slot ≡ c.common.store slot = λ slot r. (
+    let same : (slot : Slot) → ReadsTest slots test (variable slot)
+    → both.store slot ≡ c.common.store slot = λ slot r. (
     let (x, e) = has slot r in e ∙ sym (splits-has_left slot x u.1 e)) in (
       test-alike slots both.store c.common.store test same,
       test-alike slots c.common.store both.store test (λ slot r. sym (same slot r)),
@@ -95,7 +104,8 @@ conditions_are_seen_alike before after a both earlier later k c slots test w han
 pub held_are_of_the_program : HeldAreOfTheProgram
 unfolding HeldAreOfTheProgram
 held_are_of_the_program p f store heap start c events formed s reach r path h =
-    let o = reach-keeps p s.procedure events start c formed (start-in_order p f store heap start formed s) reach in
+    let o = reach-keeps p s.procedure events start c formed
+    (start-in_order p f store heap start formed s) reach in
     elim (cases_lt r.0 (length p.resources)) [
       | inl t ↦ t
       | inr t ↦
