@@ -32,7 +32,8 @@ room-number room n is (own m i) e =
     (i, ap (λ z. own z i) (same ∙ is))
 
 -- a slot that an event makes has its number
-makes-number : (p : Program) (ev : Event) (what : Next) (slot : Slot) → Makes p ev what (variable slot)
+makes-number : (p : Program) (ev : Event) (what : Next) (slot : Slot)
+    → Makes p ev what (variable slot)
     → (i : ℕ) × (slot ≡ own ev.number i)
 makes-number p ev (does f below (assign place x e) rest) slot m = absurd m
 makes-number p ev (does f below (look_up place x e g) rest) slot m = absurd m
@@ -64,8 +65,10 @@ at-all None y w d e h = sym (h ∙ e)
 at-all (Some x) None w d e h = refl
 at-all (Some x) (Some y) w d e h = absurd d
 
--- Acted: the step on the whole, what the part and the others have after it, and that unused numbers stay so
-pub record Acted (p : Program) (ev : Event) (b : Part) (from to : Task) (c : Config) (cells : Heap) (variables : Store)
+-- Acted: the step on the whole, what the part and the others have after it, and that unused numbers
+-- stay so
+pub record Acted (p : Program) (ev : Event) (b : Part) (from to : Task) (c : Config) (cells : Heap)
+    (variables : Store)
     (others : Map ResId Path) : Type 0 where
   pub after : Common
   pub steps : TaskStep p ev c.common from after to
@@ -77,9 +80,12 @@ pub record Acted (p : Program) (ev : Event) (b : Part) (from to : Task) (c : Con
   pub unused : (n : ℕ) → n ≢ ev.number → IsUnused c n
       → (after.heap n ≡ None) × ((i : ℕ) → after.store (own n i) ≡ None)
 
-module _ (p : Program) (ev : Event) (a b : Part) (from to : Task) (acts : Acts p ev a b from to) (c : Config)
-    (cells : Heap) (variables : Store) (others : Map ResId Path) (heap : Splits c.common.heap a.heap cells)
-    (store : Splits c.common.store a.store variables) (held : Splits c.common.held (holders a) others)
+module _ (p : Program) (ev : Event) (a b : Part) (from to : Task) (acts : Acts p ev a b from to)
+    (c : Config)
+    (cells : Heap) (variables : Store) (others : Map ResId Path)
+    (heap : Splits c.common.heap a.heap cells)
+    (store : Splits c.common.store a.store variables)
+    (held : Splits c.common.held (holders a) others)
     (number : IsUnused c ev.number)
     (at : (location : ℕ) → Makes p ev (next from) (cell location) → location ≡ ev.number)
     (hands : (r : ResId) → Moves p (next from) r → holders a r ≡ c.common.held r) where
@@ -97,22 +103,26 @@ module _ (p : Program) (ev : Event) (a b : Part) (from to : Task) (acts : Acts p
     holder = hands;
   }
     where
-      changed : (slot : Slot) → Writes a.store (next from) (variable slot) ⊎ Makes p ev (next from) (variable slot)
+      changed : (slot : Slot) → Writes a.store (next from) (variable slot) ⊎ Makes p ev (next from)
+          (variable slot)
           → variables slot ≡ None
       changed slot (inl w) = lacks slot (acts.slots slot (inr w))
       changed slot (inr m) =
           let (i, e) = makes-number p ev (next from) slot m in
-          subst (λ z. variables z ≡ None) (sym e) (splits-lacks_both (own ev.number i) store (number.store i)).1
+          subst (λ z. variables z ≡ None) (sym e)
+          (splits-lacks_both (own ev.number i) store (number.store i)).1
 
   -- the holders split as before
   held-after : (w : Common) → KeepsRest p (next from) c.common w (common_of b) cells variables
       → Splits w.held (holders b) others
   held-after w keeps = record { apart = λ r. (at_one r).0; is = λ r. (at_one r).1 }
     where
-      at_one : (r : ResId) → Apart (holders b r) (others r) × (w.held r ≡ option_or (holders b r) (others r))
+      at_one : (r : ResId) → Apart (holders b r) (others r)
+          × (w.held r ≡ option_or (holders b r) (others r))
       at_one r = elim (moves-or_not p (next from) r) [
         | inl m ↦ at-alone (holders b r) (w.held r) (others r) (keeps.moved r m)
-            (at-all (holders a r) (others r) (c.common.held r) (held.apart r) (held.is r) (hands r m))
+            (at-all (holders a r) (others r) (c.common.held r) (held.apart r) (held.is r)
+            (hands r m))
         | inr n ↦ let same : holders b r ≡ holders a r =
             held-by_next p ev (common_of a) (common_of b) (next from) to acts.steps r n in
             let also : w.held r ≡ c.common.held r = keeps.kept r n in (
@@ -122,7 +132,8 @@ module _ (p : Program) (ev : Event) (a b : Part) (from to : Task) (acts : Acts p
       ]
 
   -- an unused number stays unused, unless it is the event's
-  unused-after : (w : Common) → TaskStep p ev c.common from w to → (n : ℕ) → n ≢ ev.number → IsUnused c n
+  unused-after : (w : Common) → TaskStep p ev c.common from w to → (n : ℕ) → n ≢ ev.number
+      → IsUnused c n
       → (w.heap n ≡ None) × ((i : ℕ) → w.store (own n i) ≡ None)
   unused-after w step n other u = (
     heap-by_next p ev c.common w (next from) to step n cell_left ∙ u.heap,
@@ -132,7 +143,8 @@ module _ (p : Program) (ev : Event) (a b : Part) (from to : Task) (acts : Acts p
       cell_left : IsLeft p ev c.common.store (next from) (cell n)
       cell_left = record {
         unwritten = λ x. let (k, e) = next-finds c.common (next from) n
-            (goes-not_at_no_cell p ev c.common w (next from) to step) (inr x) in none-some k (sym u.heap ∙ e);
+            (goes-not_at_no_cell p ev c.common w (next from) to step) (inr x) in none-some k
+            (sym u.heap ∙ e);
         not_made = λ m. other (at n m);
       }
 
@@ -140,7 +152,8 @@ module _ (p : Program) (ev : Event) (a b : Part) (from to : Task) (acts : Acts p
       slot_left i = record {
         unwritten = λ x.
             let back = writes-back a.store c.common.store (next from)
-            (λ slot r. sym (splits-at_left slot store (lacks slot (acts.slots slot (inl r))))) (variable (own n i)) x in
+            (λ slot r. sym (splits-at_left slot store (lacks slot (acts.slots slot (inl r)))))
+            (variable (own n i)) x in
             let (v, e) = acts.slots (own n i) (inr back) in
             none-some v (sym (u.store i) ∙ splits-has_left (own n i) v store e);
         not_made = λ m.

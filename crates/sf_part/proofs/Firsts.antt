@@ -1,4 +1,5 @@
--- The part with which a procedure starts, and the contents beside it, are the configuration in which it starts.
+-- The part with which a procedure starts, and the contents beside it, are the configuration in
+-- which it starts.
 -- Names: `first-LAW`; `units-LAW` counts numbers from a base on.
 use Rattle.std.specs.Prelude.{◌≡◌, ℕ, zero, suc, ◌<◌, ◌≤◌, ◌==◌, Bool, cond, List, [], ◌∷◌, length, Option, Some, None, Contains}
 use Rattle.std.specs.List.{AllByRecursion}
@@ -26,7 +27,8 @@ use Rattle.sf_part.proofs.Trees.{entry}
 
 -- a map is the union of itself alone
 union-alone : {K X : Type 0} (w u : Map K X) → w ≡ u → IsUnion w (u ∷ [])
-union-alone w u e = subst (λ z. IsUnion z (u ∷ [])) (sym e) (empty_map, splits-empty_right empty-holds, empty-holds)
+union-alone w u e = subst (λ z. IsUnion z (u ∷ [])) (sym e)
+    (empty_map, splits-empty_right empty-holds, empty-holds)
 
 -- Units from a base on
 units-low : (n base count : ℕ) → n < base → times n (units base count) ≡ 0
@@ -53,7 +55,8 @@ units-once n base (suc count) =
     ]
 
 -- The one task
-stands-one : (frames : List Frame) (path : Path) → stands (runs frames) path ≡ entry [] (running frames) path
+stands-one : (frames : List Frame) (path : Path)
+    → stands (runs frames) path ≡ entry [] (running frames) path
 stands-one frames [] = refl
 stands-one frames (left ∷ path) = refl
 stands-one frames (right ∷ path) = refl
@@ -64,26 +67,30 @@ shares-one us (left ∷ path) = refl
 shares-one us (right ∷ path) = refl
 
 -- who holds what
-holders-first : (b : Beginning) (p : Program) (a : Part) → a.task ≡ [] → a.holds ≡ first_holds b p → (r : ResId)
+holders-first : (b : Beginning) (p : Program) (a : Part) → a.task ≡ [] → a.holds ≡ first_holds b p
+    → (r : ResId)
     → first_holders b p r ≡ holders a r
 holders-first settled p a e h r = sym (ap (λ (f : ResId → Bool). cond (f r) (Some a.task) None) h)
 holders-first (fresh n g) p a e h r =
     ap (λ z. cond (first_holds (fresh n g) p r) (Some z) None) (sym e)
     ∙ sym (ap (λ (f : ResId → Bool). cond (f r) (Some a.task) None) h)
 
-free-first : (b : Beginning) (p : Program) (contents : List TimedContent) → length contents ≡ first_count b p
+free-first : (b : Beginning) (p : Program) (contents : List TimedContent)
+    → length contents ≡ first_count b p
     → AllByRecursion (λ (k : Content). first_holders b p k.resource ≡ None) (contents_of contents)
 free-first b p [] e = tt
 free-first settled p (k ∷ contents) e = (refl, all contents)
   where
     all : (ks : List TimedContent)
-        → AllByRecursion (λ (k : Content). first_holders settled p k.resource ≡ None) (contents_of ks)
+        → AllByRecursion (λ (k : Content). first_holders settled p k.resource ≡ None)
+        (contents_of ks)
     all [] = tt
     all (k ∷ ks) = (refl, all ks)
 free-first (fresh n g) p (k ∷ contents) e = absurd (omega arith)
 
 -- a number from the base on is unused
-unused-first : (p : Program) (f : ProcId) (store : Store) (heap : Heap) (c : Config) (base count : ℕ) (a : TimedPart)
+unused-first : (p : Program) (f : ProcId) (store : Store) (heap : Heap) (c : Config)
+    (base count : ℕ) (a : TimedPart)
     (contents : List TimedContent) (s : Start p f store heap c)
     → First p f s.procedure s.beginning store heap base count a contents → (n : ℕ) → base ≤ n
     → IsUnused (initial_config s.beginning p f s.procedure store heap) n
@@ -103,9 +110,11 @@ unused-first p f store heap c base count a contents s x n l = record {
     no_slot : (i : ℕ) (o : Option Value) → store (own n i) ≡ o → store (own n i) ≡ None
     no_slot i None e = e
     no_slot i (Some v) e =
-        absurd (let z : n ≡ 0 = (s.no_more (own n i) v e).0 in let q : 0 < base = x.positive in omega arith)
+        absurd (let z : n ≡ 0 = (s.no_more (own n i) v e).0 in let q : 0 < base = x.positive in
+        omega arith)
 
-pub first-whole : (p : Program) (f : ProcId) (store : Store) (heap : Heap) (c : Config) (base count : ℕ) (a : TimedPart)
+pub first-whole : (p : Program) (f : ProcId) (store : Store) (heap : Heap) (c : Config)
+    (base count : ℕ) (a : TimedPart)
     (contents : List TimedContent) → (s : Start p f store heap c)
     → First p f s.procedure s.beginning store heap base count a contents
     → Whole (a.part ∷ []) (contents_of contents) c × Supplied (a.part ∷ []) (has (units base count))
@@ -119,11 +128,13 @@ first-whole p f store heap c base count a contents s x = (
     free = free-first s.beginning p contents x.each;
     different = λ r. from-once r 0 contents x.in_order;
     once = λ n. subst (λ z. times n z ≤ 1) (sym all) (units-once n base count);
-    unused = λ n h. unused-first p f store heap c base count a contents s x n (from_base n (subst (λ z. Contains z n) all h));
+    unused = λ n h. unused-first p f store heap c base count a contents s x n
+        (from_base n (subst (λ z. Contains z n) all h));
   }),
   union-alone _ _ (map-same _ _ (shares-one (units base count))
       ∙ (ap (λ z. entry z (units_of (units base count))) (sym x.task)
-      ∙ ap (entry a.part.task) (ap units_of (sym mine) ∙ ap (λ z. share_in z (numbers a.part.supply)) (sym x.stand)))),
+      ∙ ap (entry a.part.task) (ap units_of (sym mine)
+      ∙ ap (λ z. share_in z (numbers a.part.supply)) (sym x.stand)))),
 )
   where
     frames : List Frame

@@ -35,12 +35,14 @@ child-holders b one two all h = λ i. λ r. cond (h.holds i r) (Some (h.task i))
 
 -- maps with two that are empty
 module _ {K X : Type 0} where
-  union-empty : (w u v x : Map K X) (more : List (Map K X)) → IsEmpty v → IsEmpty x → IsUnion w (u ∷ more)
+  union-empty : (w u v x : Map K X) (more : List (Map K X)) → IsEmpty v → IsEmpty x
+      → IsUnion w (u ∷ more)
       → IsUnion w (u ∷ v ∷ x ∷ more)
   union-empty w u v x more e f (rest, s, m) =
       (rest, s, (rest, splits-empty_left e, (rest, splits-empty_left f, m)))
 
-  union-no_empty : (w u v x : Map K X) (more : List (Map K X)) → IsEmpty v → IsEmpty x → IsUnion w (u ∷ v ∷ x ∷ more)
+  union-no_empty : (w u v x : Map K X) (more : List (Map K X)) → IsEmpty v → IsEmpty x
+      → IsUnion w (u ∷ v ∷ x ∷ more)
       → IsUnion w (u ∷ more)
   union-no_empty w u v x more e f (a, s, (b, t, (d, y, m))) =
       (d, subst (λ z. Splits w u z) (splits-of_empty_left e t ∙ splits-of_empty_left f y) s, m)
@@ -50,7 +52,8 @@ fork-still p what r (f, below, place, one, two, rest, is) m = subst (λ z. Moves
 
 -- the units of a fork
 fork-spent : (ev : Event) (a b one two : Part) (others : List Part)
-    → numbers a.supply ≡ ev.number ∷ (numbers one.supply ++ numbers two.supply) → numbers b.supply ≡ []
+    → numbers a.supply ≡ ev.number ∷ (numbers one.supply ++ numbers two.supply)
+    → numbers b.supply ≡ []
     → Spent ev (a ∷ others) (b ∷ one ∷ two ∷ others)
 fork-spent ev a b one two others e none n =
     let p = count-append n (numbers a.supply) (supplies others) in
@@ -76,7 +79,8 @@ join-spent ev a one two b others e n =
     omega arith
 
 -- the fork of the first part is a step
-pub fork-step : (p : Program) (ev : Event) (a b one two : TimedPart) (others : List Part) (contents : List Content)
+pub fork-step : (p : Program) (ev : Event) (a b one two : TimedPart) (others : List Part)
+    (contents : List Content)
     (c : Config) → Forks p ev a b one two → Whole (a.part ∷ others) contents c
     → Single p ev c (a.part ∷ others) (b.part ∷ one.part ∷ two.part ∷ others) contents
 fork-step p ev a b one two others contents c e w =
@@ -84,7 +88,8 @@ fork-step p ev a b one two others contents c e w =
     let to : Task = waits e.kept (runs e.left_frames) (runs e.right_frames) in
     let olds = a.part ∷ others in
     let news = b.part ∷ one.part ∷ two.part ∷ others in
-    let units = takes-fork ev what (numbers a.part.supply) (numbers one.part.supply) (numbers two.part.supply) e.fork
+    let units = takes-fork ev what (numbers a.part.supply) (numbers one.part.supply)
+    (numbers two.part.supply) e.fork
     e.spends in
     let spent = fork-spent ev a.part b.part one.part two.part others units e.none_left in
     let number = spent-number ev olds news c spent w.unused in
@@ -92,7 +97,8 @@ fork-step p ev a b one two others contents c e w =
     let s = beside-step p ev a.part e.all (runs e.frames) to others contents c e.acts
     (record { heap = w.heap; store = w.store; held = w.held }) number
     (takes-at p ev what (has (numbers a.part.supply))
-    (lent (has (numbers one.part.supply)) (has (numbers two.part.supply))) e.spends) (λ r m. absurd (still r m)) in
+    (lent (has (numbers one.part.supply)) (has (numbers two.part.supply))) e.spends)
+    (λ r m. absurd (still r m)) in
     let task = sym e.children.task ∙ e.acts.task in
     let there = subst (λ z. task_at z c.tasks ≡ Some (runs e.frames)) (sym e.acts.own)
     (tasks-runs c.tasks a.part (map own_stand others) e.frames w.tasks e.acts.from_is) in
@@ -100,33 +106,42 @@ fork-step p ev a b one two others contents c e w =
       config = next_config c ev s.after to;
       step = next-step p ev c (runs e.frames) to s.after number.used there s.steps;
       whole = record {
-        tasks = subst (λ z. IsUnion (stands (put_task z to c.tasks)) (map own_stand news)) (sym e.acts.own)
-            (tasks-fork c.tasks a.part b.part one.part two.part (map own_stand others) e.frames e.kept e.left_frames
+        tasks = subst (λ z. IsUnion (stands (put_task z to c.tasks)) (map own_stand news))
+            (sym e.acts.own)
+            (tasks-fork c.tasks a.part b.part one.part two.part (map own_stand others) e.frames
+            e.kept e.left_frames
             e.right_frames w.tasks e.acts.from_is task (sym e.children.stand ∙ e.acts.to_is)
             (e.children.left_one.task ∙ ap (λ z. z ++ left ∷ []) task) e.left_begins.stand
             (e.children.right_one.task ∙ ap (λ z. z ++ right ∷ []) task) e.right_begins.stand);
         heap = union-open (b.part.heap ∷ one.part.heap ∷ two.part.heap ∷ [])
-            (map part_heap others ++ map content_heap contents) s.after.heap e.all.heap e.children.heap s.beside.heap;
+            (map part_heap others ++ map content_heap contents) s.after.heap e.all.heap
+            e.children.heap s.beside.heap;
         store = union-open (b.part.store ∷ one.part.store ∷ two.part.store ∷ [])
-            (map part_store others ++ map content_store contents) s.after.store e.all.store e.children.store
+            (map part_store others ++ map content_store contents) s.after.store e.all.store
+            e.children.store
             s.beside.store;
-        held = union-empty s.after.held (holders b.part) (holders one.part) (holders two.part) (map holders others)
-            (child-none one.part e.children.left_one.holds) (child-none two.part e.children.right_one.holds)
+        held = union-empty s.after.held (holders b.part) (holders one.part) (holders two.part)
+            (map holders others)
+            (child-none one.part e.children.left_one.holds)
+            (child-none two.part e.children.right_one.holds)
             (subst (λ z. IsUnion s.after.held (z ∷ map holders others))
             (child-holders b.part one.part two.part e.all e.children) s.beside.held);
-        free = free-after p what c.common s.after contents s.kept (λ r m. absurd (still r m)) w.free;
+        free = free-after p what c.common s.after contents s.kept (λ r m. absurd (still r m))
+            w.free;
         different = w.different;
         once = spent-once ev olds news spent w.once;
         unused = spent-unused ev olds news c s.after to spent w.once w.unused s.unused;
       };
-      takes = shares-fork ev c a.part b.part one.part two.part others e.frames e.kept e.left_frames e.right_frames e.acts.own
+      takes = shares-fork ev c a.part b.part one.part two.part others e.frames e.kept e.left_frames
+          e.right_frames e.acts.own
           there e.spends e.acts.from_is task (sym e.children.stand ∙ e.acts.to_is)
           (e.children.left_one.task ∙ ap (λ z. z ++ left ∷ []) task) e.left_begins.stand
           (e.children.right_one.task ∙ ap (λ z. z ++ right ∷ []) task) e.right_begins.stand;
     }
 
 -- the join of the second and the third part by the first is a step
-pub join-step : (p : Program) (ev : Event) (a one two b : TimedPart) (others : List Part) (contents : List Content)
+pub join-step : (p : Program) (ev : Event) (a one two b : TimedPart) (others : List Part)
+    (contents : List Content)
     (c : Config) → Joins p ev a one two b → Whole (a.part ∷ one.part ∷ two.part ∷ others) contents c
     → Single p ev c (a.part ∷ one.part ∷ two.part ∷ others) (b.part ∷ others) contents
 join-step p ev a one two b others contents c e w =
@@ -134,19 +149,24 @@ join-step p ev a one two b others contents c e w =
     let what = next from in
     let olds = a.part ∷ one.part ∷ two.part ∷ others in
     let news = b.part ∷ others in
-    let units = takes-join ev what (numbers one.part.supply) (numbers two.part.supply) (numbers b.part.supply) e.spends in
+    let units = takes-join ev what (numbers one.part.supply) (numbers two.part.supply)
+    (numbers b.part.supply) e.spends in
     let spent = join-spent ev a.part one.part two.part b.part others units in
     let number = spent-number ev olds news c spent w.unused in
     let s = beside-step p ev e.all b.part from (runs e.kept) others contents c e.acts
     (record {
       heap = union-gather (a.part.heap ∷ one.part.heap ∷ two.part.heap ∷ [])
-          (map part_heap others ++ map content_heap contents) c.common.heap e.all.heap e.children.heap w.heap;
+          (map part_heap others ++ map content_heap contents) c.common.heap e.all.heap
+          e.children.heap w.heap;
       store = union-gather (a.part.store ∷ one.part.store ∷ two.part.store ∷ [])
-          (map part_store others ++ map content_store contents) c.common.store e.all.store e.children.store w.store;
+          (map part_store others ++ map content_store contents) c.common.store e.all.store
+          e.children.store w.store;
       held = subst (λ z. IsUnion c.common.held (z ∷ map holders others))
           (sym (child-holders a.part one.part two.part e.all e.children))
-          (union-no_empty c.common.held (holders a.part) (holders one.part) (holders two.part) (map holders others)
-          (child-none one.part e.children.left_one.holds) (child-none two.part e.children.right_one.holds) w.held);
+          (union-no_empty c.common.held (holders a.part) (holders one.part) (holders two.part)
+          (map holders others)
+          (child-none one.part e.children.left_one.holds)
+          (child-none two.part e.children.right_one.holds) w.held);
     }) number
     (takes-at p ev what (lent (has (numbers one.part.supply)) (has (numbers two.part.supply)))
     (has (numbers b.part.supply)) e.spends) (λ r m. absurd m) in
@@ -159,9 +179,11 @@ join-step p ev a one two b others contents c e w =
       config = next_config c ev s.after (runs e.kept);
       step = next-step p ev c from (runs e.kept) s.after number.used there s.steps;
       whole = record {
-        tasks = subst (λ z. IsUnion (stands (put_task z (runs e.kept) c.tasks)) (own_stand b.part ∷ map own_stand others))
+        tasks = subst (λ z. IsUnion (stands (put_task z (runs e.kept) c.tasks))
+            (own_stand b.part ∷ map own_stand others))
             (sym own)
-            (tasks-join c.tasks a.part one.part two.part b.part (map own_stand others) e.frames e.kept w.tasks from_is
+            (tasks-join c.tasks a.part one.part two.part b.part (map own_stand others) e.frames
+            e.kept w.tasks from_is
             e.children.left_one.task e.left_ended e.children.right_one.task e.right_ended
             (e.acts.task ∙ e.children.task) e.acts.to_is);
         heap = s.beside.heap;
@@ -172,39 +194,52 @@ join-step p ev a one two b others contents c e w =
         once = spent-once ev olds news spent w.once;
         unused = spent-unused ev olds news c s.after (runs e.kept) spent w.once w.unused s.unused;
       };
-      takes = shares-join ev c a.part one.part two.part b.part others e.frames e.kept own there e.spends from_is
+      takes = shares-join ev c a.part one.part two.part b.part others e.frames e.kept own there
+          e.spends from_is
           e.children.left_one.task e.left_ended e.children.right_one.task e.right_ended
           (e.acts.task ∙ e.children.task) e.acts.to_is;
     }
 
 -- the fork of a part in the middle
 pub forks-lead : (p : Program) (ev : Event) (a b one two : TimedPart) (before after : List Part)
-    (contents : List Content) (c : Config) → Forks p ev a b one two → Whole (before ++ a.part ∷ after) contents c
-    → Leads p (ev ∷ []) c (before ++ a.part ∷ after) (before ++ b.part ∷ one.part ∷ two.part ∷ after) contents
+    (contents : List Content) (c : Config) → Forks p ev a b one two
+    → Whole (before ++ a.part ∷ after) contents c
+    → Leads p (ev ∷ []) c (before ++ a.part ∷ after)
+    (before ++ b.part ∷ one.part ∷ two.part ∷ after) contents
 forks-lead p ev a b one two before after contents c e w =
     leads-along p (ev ∷ []) c (a.part ∷ before ++ after) (before ++ a.part ∷ after)
-    (b.part ∷ one.part ∷ two.part ∷ before ++ after) (before ++ b.part ∷ one.part ∷ two.part ∷ after) contents contents
+    (b.part ∷ one.part ∷ two.part ∷ before ++ after)
+    (before ++ b.part ∷ one.part ∷ two.part ∷ after) contents contents
     (λ s h. supplied-focus s before after a.part h)
-    (λ s h. order-three_back (λ parts. Supplied parts s) (supplied-focus s) (supplied-unfocus s) before after b.part
+    (λ s h. order-three_back (λ parts. Supplied parts s) (supplied-focus s) (supplied-unfocus s)
+    before after b.part
     one.part two.part h)
-    (λ d h. order-three_back (λ parts. Whole parts contents d) (λ x y z k. whole-focus x y z contents d k)
+    (λ d h. order-three_back (λ parts. Whole parts contents d)
+    (λ x y z k. whole-focus x y z contents d k)
     (λ x y z k. whole-unfocus x y z contents d k) before after b.part one.part two.part h)
-    (leads-one p ev c (a.part ∷ before ++ after) (b.part ∷ one.part ∷ two.part ∷ before ++ after) contents
-    (fork-step p ev a b one two (before ++ after) contents c e (whole-focus before after a.part contents c w)))
+    (leads-one p ev c (a.part ∷ before ++ after) (b.part ∷ one.part ∷ two.part ∷ before ++ after)
+    contents
+    (fork-step p ev a b one two (before ++ after) contents c e
+    (whole-focus before after a.part contents c w)))
 
 -- and its join
 pub joins-lead : (p : Program) (ev : Event) (a one two b : TimedPart) (before after : List Part)
     (contents : List Content) (c : Config) → Joins p ev a one two b
     → Whole (before ++ a.part ∷ one.part ∷ two.part ∷ after) contents c
-    → Leads p (ev ∷ []) c (before ++ a.part ∷ one.part ∷ two.part ∷ after) (before ++ b.part ∷ after) contents
+    → Leads p (ev ∷ []) c (before ++ a.part ∷ one.part ∷ two.part ∷ after)
+    (before ++ b.part ∷ after) contents
 joins-lead p ev a one two b before after contents c e w =
     leads-along p (ev ∷ []) c (a.part ∷ one.part ∷ two.part ∷ before ++ after)
-    (before ++ a.part ∷ one.part ∷ two.part ∷ after) (b.part ∷ before ++ after) (before ++ b.part ∷ after) contents
+    (before ++ a.part ∷ one.part ∷ two.part ∷ after) (b.part ∷ before ++ after)
+    (before ++ b.part ∷ after) contents
     contents
-    (λ s h. order-three (λ parts. Supplied parts s) (supplied-focus s) (supplied-unfocus s) before after a.part one.part
+    (λ s h. order-three (λ parts. Supplied parts s) (supplied-focus s) (supplied-unfocus s) before
+    after a.part one.part
     two.part h)
-    (λ s h. supplied-unfocus s before after b.part h) (λ d h. whole-unfocus before after b.part contents d h)
-    (leads-one p ev c (a.part ∷ one.part ∷ two.part ∷ before ++ after) (b.part ∷ before ++ after) contents
+    (λ s h. supplied-unfocus s before after b.part h)
+    (λ d h. whole-unfocus before after b.part contents d h)
+    (leads-one p ev c (a.part ∷ one.part ∷ two.part ∷ before ++ after) (b.part ∷ before ++ after)
+    contents
     (join-step p ev a one two b (before ++ after) contents c e
     (order-three (λ parts. Whole parts contents c) (λ x y z k. whole-focus x y z contents c k)
     (λ x y z k. whole-unfocus x y z contents c k) before after a.part one.part two.part w)))

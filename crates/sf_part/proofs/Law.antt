@@ -17,8 +17,11 @@ parts_in_any_order before after a contents c =
 
 pub contents_in_any_order : ContentsInAnyOrder
 unfolding ContentsInAnyOrder
-contents_in_any_order parts before after k c =
-    (λ w. whole-focus_content parts before after k c w, λ w. whole-unfocus_content parts before after k c w)
+contents_in_any_order parts before after k c = (
+  λ w. whole-focus_content parts before after k c w,
+  λ w. whole-unfocus_content parts before
+      after k c w,
+)
 
 pub private_events_are_steps : PrivateEventsAreSteps
 unfolding PrivateEventsAreSteps

@@ -14,5 +14,6 @@ pub mod Forks
 pub mod Numbers
 pub mod Firsts
 pub mod Times
+pub mod Seen
 pub mod Worked
 pub mod Law

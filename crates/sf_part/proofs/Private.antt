@@ -30,17 +30,21 @@ private-still p (joins frames one two) r h m = h
 private-still p nothing r h m = h
 
 -- a private event of the first part is a step
-pub private-step : (p : Program) (ev : Event) (a b : TimedPart) (others : List Part) (contents : List Content)
+pub private-step : (p : Program) (ev : Event) (a b : TimedPart) (others : List Part)
+    (contents : List Content)
     (c : Config) → Private p ev a b → Whole (a.part ∷ others) contents c
     → Single p ev c (a.part ∷ others) (b.part ∷ others) contents
 private-step p ev a b others contents c e w =
-    let units = takes-one ev (next (runs e.frames)) (numbers a.part.supply) (numbers b.part.supply) e.spends in
+    let units = takes-one ev (next (runs e.frames)) (numbers a.part.supply) (numbers b.part.supply)
+    e.spends in
     let spent = spent-one ev a.part b.part others units in
     let number = spent-number ev (a.part ∷ others) (b.part ∷ others) c spent w.unused in
-    let still = λ (r : ResId) (m : Moves p (next (runs e.frames)) r). private-still p (next (runs e.frames)) r e.private m in
+    let still = λ (r : ResId) (m : Moves p (next (runs e.frames)) r). private-still p
+    (next (runs e.frames)) r e.private m in
     let s = beside-step p ev a.part b.part (runs e.frames) (runs e.kept) others contents c e.acts
     (record { heap = w.heap; store = w.store; held = w.held }) number
-    (takes-at p ev (next (runs e.frames)) (has (numbers a.part.supply)) (has (numbers b.part.supply)) e.spends)
+    (takes-at p ev (next (runs e.frames)) (has (numbers a.part.supply))
+    (has (numbers b.part.supply)) e.spends)
     (λ r m. absurd (still r m)) in
     let there = subst (λ z. task_at z c.tasks ≡ Some (runs e.frames)) (sym e.acts.own)
     (tasks-runs c.tasks a.part (map own_stand others) e.frames w.tasks e.acts.from_is) in
@@ -48,25 +52,31 @@ private-step p ev a b others contents c e w =
       config = next_config c ev s.after (runs e.kept);
       step = next-step p ev c (runs e.frames) (runs e.kept) s.after number.used there s.steps;
       whole = record {
-        tasks = subst (λ z. IsUnion (stands (put_task z (runs e.kept) c.tasks)) (own_stand b.part ∷ map own_stand others))
+        tasks = subst (λ z. IsUnion (stands (put_task z (runs e.kept) c.tasks))
+            (own_stand b.part ∷ map own_stand others))
             (sym e.acts.own)
-            (tasks-run c.tasks a.part b.part (map own_stand others) e.frames e.kept w.tasks e.acts.from_is e.acts.task
+            (tasks-run c.tasks a.part b.part (map own_stand others) e.frames e.kept w.tasks
+            e.acts.from_is e.acts.task
             e.acts.to_is);
         heap = s.beside.heap;
         store = s.beside.store;
         held = s.beside.held;
-        free = free-after p (next (runs e.frames)) c.common s.after contents s.kept (λ r m. absurd (still r m)) w.free;
+        free = free-after p (next (runs e.frames)) c.common s.after contents s.kept
+            (λ r m. absurd (still r m)) w.free;
         different = w.different;
         once = spent-once ev (a.part ∷ others) (b.part ∷ others) spent w.once;
-        unused = spent-unused ev (a.part ∷ others) (b.part ∷ others) c s.after (runs e.kept) spent w.once w.unused
+        unused = spent-unused ev (a.part ∷ others) (b.part ∷ others) c s.after (runs e.kept) spent
+            w.once w.unused
             s.unused;
       };
-      takes = shares-run ev c a.part b.part others e.frames e.kept e.acts.own there e.spends e.acts.from_is e.acts.task
+      takes = shares-run ev c a.part b.part others e.frames e.kept e.acts.own there e.spends
+          e.acts.from_is e.acts.task
           e.acts.to_is;
     }
 
 -- private events of the first part, one after the other, lead on
-private-leads : (p : Program) (events : List Event) (a b : TimedPart) (others : List Part) (contents : List Content)
+private-leads : (p : Program) (events : List Event) (a b : TimedPart) (others : List Part)
+    (contents : List Content)
     (c : Config) → Privates p a events b → Whole (a.part ∷ others) contents c
     → Leads p events c (a.part ∷ others) (b.part ∷ others) contents
 private-leads p [] a b others contents c e w =
@@ -75,15 +85,20 @@ private-leads p [] a b others contents c e w =
 private-leads p (ev ∷ events) a b others contents c (m, e, es) w =
     let first = leads-one p ev c (a.part ∷ others) (m.part ∷ others) contents
     (private-step p ev a m others contents c e w) in
-    leads-compose p (ev ∷ []) events c (a.part ∷ others) (m.part ∷ others) (b.part ∷ others) contents contents first
+    leads-compose p (ev ∷ []) events c (a.part ∷ others) (m.part ∷ others) (b.part ∷ others)
+    contents contents first
     (private-leads p events m b others contents first.config es first.whole)
 
 -- so do those of a part in the middle
 pub privates-lead : (p : Program) (events : List Event) (a b : TimedPart) (before after : List Part)
-    (contents : List Content) (c : Config) → Privates p a events b → Whole (before ++ a.part ∷ after) contents c
+    (contents : List Content) (c : Config) → Privates p a events b
+    → Whole (before ++ a.part ∷ after) contents c
     → Leads p events c (before ++ a.part ∷ after) (before ++ b.part ∷ after) contents
 privates-lead p events a b before after contents c e w =
-    leads-along p events c (a.part ∷ before ++ after) (before ++ a.part ∷ after) (b.part ∷ before ++ after)
+    leads-along p events c (a.part ∷ before ++ after) (before ++ a.part ∷ after)
+    (b.part ∷ before ++ after)
     (before ++ b.part ∷ after) contents contents (λ s h. supplied-focus s before after a.part h)
-    (λ s h. supplied-unfocus s before after b.part h) (λ d h. whole-unfocus before after b.part contents d h)
-    (private-leads p events a b (before ++ after) contents c e (whole-focus before after a.part contents c w))
+    (λ s h. supplied-unfocus s before after b.part h)
+    (λ d h. whole-unfocus before after b.part contents d h)
+    (private-leads p events a b (before ++ after) contents c e
+    (whole-focus before after a.part contents c w))

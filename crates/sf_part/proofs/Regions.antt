@@ -1,5 +1,7 @@
--- Entries of regions and exits from them are steps, with the content that is taken in or left behind.
--- Names: `entry-LAW`, `exit-LAW`, `hand-LAW` of a part with a content in hand, `count-LAW` of contents of a resource.
+-- Entries of regions and exits from them are steps, with the content that is taken in or left
+-- behind.
+-- Names: `entry-LAW`, `exit-LAW`, `hand-LAW` of a part with a content in hand, `count-LAW` of
+-- contents of a resource.
 use Rattle.std.specs.Prelude.{◌≡◌, ◌≤◌, ◌==◌, Bool, cond, true, false, List, [], ◌∷◌, ◌++◌, map, Option, Some, None}
 use Rattle.std.specs.List.{AllByRecursion}
 use Rattle.std.proofs.Common.{true≢false, sym, ap, ◌∙◌, refl, subst, arith}
@@ -41,8 +43,10 @@ count-other q (k ∷ contents) e =
     is_false false h = refl
 
 -- where all are of free resources, none is of one that is held
-pub count-held : (q : ResId) (path : Path) (s : Common) (contents : List Content) → s.held q ≡ Some path
-    → AllByRecursion (λ (k : Content). s.held k.resource ≡ None) contents → of_resource q contents ≡ 0
+pub count-held : (q : ResId) (path : Path) (s : Common) (contents : List Content)
+    → s.held q ≡ Some path
+    → AllByRecursion (λ (k : Content). s.held k.resource ≡ None) contents
+    → of_resource q contents ≡ 0
 count-held q path s [] e free = refl
 count-held q path s (k ∷ contents) e (f, free) =
     let more = count-held q path s contents e free in
@@ -55,7 +59,8 @@ count-held q path s (k ∷ contents) e (f, free) =
     go false h = refl
 
 -- what follows at each content from two facts
-all-map_two : (P Q R : Content → Type 0) (contents : List Content) → ((k : Content) → P k → Q k → R k)
+all-map_two : (P Q R : Content → Type 0) (contents : List Content)
+    → ((k : Content) → P k → Q k → R k)
     → AllByRecursion P contents → AllByRecursion Q contents → AllByRecursion R contents
 all-map_two P Q R [] f h g = tt
 all-map_two P Q R (k ∷ contents) f (x, h) (y, g) = (f k x y, all-map_two P Q R contents f h g)
@@ -65,7 +70,8 @@ entry-moves : (p : Program) (what : Next) (q r : ResId) → IsEntry what q → M
 entry-moves p what q r (f, below, place, test, body, rest, is) m = subst (λ z. Moves p z r) is m
 
 entry-moved : (p : Program) (what : Next) (q : ResId) → IsEntry what q → Moves p what q
-entry-moved p what q (f, below, place, test, body, rest, is) = subst (λ z. Moves p z q) (sym is) refl
+entry-moved p what q (f, below, place, test, body, rest, is) = subst (λ z. Moves p z q) (sym is)
+    refl
 
 entry-changes : (what : Next) (q : ResId) (path : Path) (x y : Option Path) → IsEntry what q
     → HolderChanges path what x y → (x ≡ None) × (y ≡ Some path)
@@ -84,12 +90,15 @@ exit-changes what q path x y (f, below, rest, is) h =
     let k = subst (λ z. HolderChanges path z x y) is h in (k.0, k.1)
 
 -- a part with a content in hand holds the same resources
-pub hand-holders : (a : Part) (k : Content) (both : Part) → HasInHand a k both → holders both ≡ holders a
+pub hand-holders : (a : Part) (k : Content) (both : Part) → HasInHand a k both
+    → holders both ≡ holders a
 hand-holders a k both h = λ i. λ r. cond (h.holds i r) (Some (h.task i)) None
 
 -- the entry of a region by the first part, with the first content, is a step
-pub entry-step : (p : Program) (ev : Event) (a b : TimedPart) (k : TimedContent) (others : List Part)
-    (contents : List Content) (c : Config) → Enters p ev a k b → Whole (a.part ∷ others) (k.content ∷ contents) c
+pub entry-step : (p : Program) (ev : Event) (a b : TimedPart) (k : TimedContent)
+    (others : List Part)
+    (contents : List Content) (c : Config) → Enters p ev a k b
+    → Whole (a.part ∷ others) (k.content ∷ contents) c
     → Single p ev c (a.part ∷ others) (b.part ∷ others) contents
 entry-step p ev a b k others contents c e w =
     let what = next (runs e.frames) in
@@ -100,21 +109,25 @@ entry-step p ev a b k others contents c e w =
     let same = hand-holders a.part k.content e.both e.hand in
     let hands : (r : ResId) → Moves p what r → holders e.both r ≡ c.common.held r = λ r m. (
     let change = entry-changes what q ev.task (holders e.both r) (holders b.part r) e.entry
-    (moved-by_next p ev (common_of e.both) (common_of b.part) what (runs e.kept) e.acts.steps r m) in
+    (moved-by_next p ev (common_of e.both) (common_of b.part) what (runs e.kept) e.acts.steps r m)
+    in
     change.0 ∙ sym (ap c.common.held (entry-moves p what q r e.entry m) ∙ w.free.0)) in
     let s = beside-step p ev e.both b.part (runs e.frames) (runs e.kept) others contents c e.acts
     (record {
       heap = union-join c.common.heap e.both.heap a.part.heap k.content.heap
           (map part_heap others ++ map content_heap contents) e.hand.heap
-          (union-second a.part.heap (map part_heap others) k.content.heap (map content_heap contents) c.common.heap
+          (union-second a.part.heap (map part_heap others) k.content.heap
+          (map content_heap contents) c.common.heap
           w.heap);
       store = union-join c.common.store e.both.store a.part.store k.content.store
           (map part_store others ++ map content_store contents) e.hand.store
-          (union-second a.part.store (map part_store others) k.content.store (map content_store contents)
+          (union-second a.part.store (map part_store others) k.content.store
+          (map content_store contents)
           c.common.store w.store);
       held = subst (λ z. IsUnion c.common.held (z ∷ map holders others)) (sym same) w.held;
     }) number
-    (takes-at p ev what (has (numbers a.part.supply)) (has (numbers b.part.supply)) e.spends) hands in
+    (takes-at p ev what (has (numbers a.part.supply)) (has (numbers b.part.supply)) e.spends) hands
+    in
     let own = e.acts.own ∙ e.hand.task in
     let from_is = sym e.hand.stand ∙ e.acts.from_is in
     let none : of_resource q contents ≡ 0 = only_one (w.different q) in
@@ -124,7 +137,8 @@ entry-step p ev a b k others contents c e w =
       config = next_config c ev s.after (runs e.kept);
       step = next-step p ev c (runs e.frames) (runs e.kept) s.after number.used there s.steps;
       whole = record {
-        tasks = subst (λ z. IsUnion (stands (put_task z (runs e.kept) c.tasks)) (own_stand b.part ∷ map own_stand others))
+        tasks = subst (λ z. IsUnion (stands (put_task z (runs e.kept) c.tasks))
+            (own_stand b.part ∷ map own_stand others))
             (sym own)
             (tasks-run c.tasks a.part b.part (map own_stand others) e.frames e.kept w.tasks from_is
             (e.acts.task ∙ e.hand.task) e.acts.to_is);
@@ -132,20 +146,23 @@ entry-step p ev a b k others contents c e w =
         store = s.beside.store;
         held = s.beside.held;
         free = all-map_two (λ (j : Content). c.common.held j.resource ≡ None)
-            (λ (j : Content). (j.resource.0 == q.0) ≡ false) (λ (j : Content). s.after.held j.resource ≡ None) contents
+            (λ (j : Content). (j.resource.0 == q.0) ≡ false)
+            (λ (j : Content). s.after.held j.resource ≡ None) contents
             (λ j f n. s.kept j.resource (λ m. true≢false (sym (ap (λ (z : ResId). z.0 == q.0)
             (entry-moves p what q j.resource e.entry m) ∙ at-self q.0) ∙ n)) ∙ f) w.free.1
             (count-other q contents none);
         different = λ r. fewer r (w.different r);
         once = spent-once ev (a.part ∷ others) (b.part ∷ others) spent w.once;
-        unused = spent-unused ev (a.part ∷ others) (b.part ∷ others) c s.after (runs e.kept) spent w.once w.unused
+        unused = spent-unused ev (a.part ∷ others) (b.part ∷ others) c s.after (runs e.kept) spent
+            w.once w.unused
             s.unused;
       };
       takes = shares-run ev c a.part b.part others e.frames e.kept own there e.spends from_is
           (e.acts.task ∙ e.hand.task) e.acts.to_is;
     }
   where
-    only_one : of_resource k.content.resource (k.content ∷ contents) ≤ 1 → of_resource k.content.resource contents ≡ 0
+    only_one : of_resource k.content.resource (k.content ∷ contents) ≤ 1
+        → of_resource k.content.resource contents ≡ 0
     only_one h =
         let s = of_resource-cons k.content.resource k.content contents in
         let e : one_if (k.content.resource.0 == k.content.resource.0) ≡ 1 =
@@ -168,30 +185,38 @@ exit-step p ev a b k others contents c e w =
     let spent = spent-one ev a.part b.part others units in
     let number = spent-number ev (a.part ∷ others) (b.part ∷ others) c spent w.unused in
     let same = hand-holders b.part k.content e.both e.hand in
-    let changes = λ (r : ResId) (m : Moves p what r). exit-changes what q ev.task (holders a.part r) (holders e.both r) e.exit
-    (moved-by_next p ev (common_of a.part) (common_of e.both) what (runs e.kept) e.acts.steps r m) in
+    let changes = λ (r : ResId) (m : Moves p what r). exit-changes what q ev.task (holders a.part r)
+    (holders e.both r) e.exit
+    (moved-by_next p ev (common_of a.part) (common_of e.both) what (runs e.kept) e.acts.steps r m)
+    in
     let hands : (r : ResId) → Moves p what r → holders a.part r ≡ c.common.held r = λ r m.
     (changes r m).0 ∙ sym (splits-has_left r ev.task w.held.1 (changes r m).0) in
     let s = beside-step p ev a.part e.both (runs e.frames) (runs e.kept) others contents c e.acts
     (record { heap = w.heap; store = w.store; held = w.held }) number
-    (takes-at p ev what (has (numbers a.part.supply)) (has (numbers e.both.supply)) e.spends) hands in
+    (takes-at p ev what (has (numbers a.part.supply)) (has (numbers e.both.supply)) e.spends) hands
+    in
     let moved = exit-moved p what q e.exit in
     let freed = λ (r : ResId) (m : Moves p what r). s.moved r m ∙ (changes r m).1 in
-    let none = count-held q ev.task c.common contents (sym (hands q moved) ∙ (changes q moved).0) w.free in
+    let none = count-held q ev.task c.common contents (sym (hands q moved) ∙ (changes q moved).0)
+    w.free in
     let there = subst (λ z. task_at z c.tasks ≡ Some (runs e.frames)) (sym e.acts.own)
     (tasks-runs c.tasks a.part (map own_stand others) e.frames w.tasks e.acts.from_is) in
     record {
       config = next_config c ev s.after (runs e.kept);
       step = next-step p ev c (runs e.frames) (runs e.kept) s.after number.used there s.steps;
       whole = record {
-        tasks = subst (λ z. IsUnion (stands (put_task z (runs e.kept) c.tasks)) (own_stand b.part ∷ map own_stand others))
+        tasks = subst (λ z. IsUnion (stands (put_task z (runs e.kept) c.tasks))
+            (own_stand b.part ∷ map own_stand others))
             (sym e.acts.own)
-            (tasks-run c.tasks a.part b.part (map own_stand others) e.frames e.kept w.tasks e.acts.from_is
+            (tasks-run c.tasks a.part b.part (map own_stand others) e.frames e.kept w.tasks
+            e.acts.from_is
             (sym e.hand.task ∙ e.acts.task) (sym e.hand.stand ∙ e.acts.to_is));
-        heap = union-unsecond b.part.heap (map part_heap others) k.content.heap (map content_heap contents) s.after.heap
+        heap = union-unsecond b.part.heap (map part_heap others) k.content.heap
+            (map content_heap contents) s.after.heap
             (union-part s.after.heap e.both.heap b.part.heap k.content.heap
             (map part_heap others ++ map content_heap contents) e.hand.heap s.beside.heap);
-        store = union-unsecond b.part.store (map part_store others) k.content.store (map content_store contents)
+        store = union-unsecond b.part.store (map part_store others) k.content.store
+            (map content_store contents)
             s.after.store
             (union-part s.after.store e.both.store b.part.store k.content.store
             (map part_store others ++ map content_store contents) e.hand.store s.beside.store);
@@ -199,11 +224,13 @@ exit-step p ev a b k others contents c e w =
         free = (freed q moved, free-after p what c.common s.after contents s.kept freed w.free);
         different = λ r. more r none (w.different r);
         once = spent-once ev (a.part ∷ others) (b.part ∷ others) spent w.once;
-        unused = spent-unused ev (a.part ∷ others) (b.part ∷ others) c s.after (runs e.kept) spent w.once w.unused
+        unused = spent-unused ev (a.part ∷ others) (b.part ∷ others) c s.after (runs e.kept) spent
+            w.once w.unused
             s.unused;
       };
       takes = shares-run ev c a.part b.part others e.frames e.kept e.acts.own there
-          (subst (λ z. NextTakes ev what (has (numbers a.part.supply)) (has (numbers z))) e.hand.supply e.spends)
+          (subst (λ z. NextTakes ev what (has (numbers a.part.supply)) (has (numbers z)))
+          e.hand.supply e.spends)
           e.acts.from_is (sym e.hand.task ∙ e.acts.task) (sym e.hand.stand ∙ e.acts.to_is);
     }
   where
@@ -211,7 +238,8 @@ exit-step p ev a b k others contents c e w =
         → of_resource r (k.content ∷ contents) ≤ 1
     more r none h = go (k.content.resource.0 == r.0) refl
       where
-        go : (b : Bool) → (k.content.resource.0 == r.0) ≡ b → of_resource r (k.content ∷ contents) ≤ 1
+        go : (b : Bool) → (k.content.resource.0 == r.0) ≡ b
+            → of_resource r (k.content ∷ contents) ≤ 1
         go true e =
             let s = of_resource-cons r k.content contents in
             let z : of_resource r contents ≡ 0 =
@@ -224,14 +252,17 @@ exit-step p ev a b k others contents c e w =
             omega arith
 
 -- entries by a part in the middle, with a content in the middle
-pub entries-lead : (p : Program) (ev : Event) (a b : TimedPart) (k : TimedContent) (before after : List Part)
+pub entries-lead : (p : Program) (ev : Event) (a b : TimedPart) (k : TimedContent)
+    (before after : List Part)
     (earlier later : List Content) (c : Config) → Enters p ev a k b
     → Whole (before ++ a.part ∷ after) (earlier ++ k.content ∷ later) c
     → Leads p (ev ∷ []) c (before ++ a.part ∷ after) (before ++ b.part ∷ after) (earlier ++ later)
 entries-lead p ev a b k before after earlier later c e w =
-    leads-along p (ev ∷ []) c (a.part ∷ before ++ after) (before ++ a.part ∷ after) (b.part ∷ before ++ after)
+    leads-along p (ev ∷ []) c (a.part ∷ before ++ after) (before ++ a.part ∷ after)
+    (b.part ∷ before ++ after)
     (before ++ b.part ∷ after) (earlier ++ later) (earlier ++ later)
-    (λ s h. supplied-focus s before after a.part h) (λ s h. supplied-unfocus s before after b.part h)
+    (λ s h. supplied-focus s before after a.part h)
+    (λ s h. supplied-unfocus s before after b.part h)
     (λ d h. whole-unfocus before after b.part (earlier ++ later) d h)
     (leads-one p ev c (a.part ∷ before ++ after) (b.part ∷ before ++ after) (earlier ++ later)
     (entry-step p ev a b k (before ++ after) (earlier ++ later) c e
@@ -239,16 +270,21 @@ entries-lead p ev a b k before after earlier later c e w =
     (whole-focus before after a.part (earlier ++ k.content ∷ later) c w))))
 
 -- exits of a part in the middle, with a content that comes into the middle
-pub exits-lead : (p : Program) (ev : Event) (a b : TimedPart) (k : TimedContent) (before after : List Part)
+pub exits-lead : (p : Program) (ev : Event) (a b : TimedPart) (k : TimedContent)
+    (before after : List Part)
     (earlier later : List Content) (c : Config) → Exits p ev a k b
     → Whole (before ++ a.part ∷ after) (earlier ++ later) c
-    → Leads p (ev ∷ []) c (before ++ a.part ∷ after) (before ++ b.part ∷ after) (earlier ++ k.content ∷ later)
+    → Leads p (ev ∷ []) c (before ++ a.part ∷ after) (before ++ b.part ∷ after)
+    (earlier ++ k.content ∷ later)
 exits-lead p ev a b k before after earlier later c e w =
-    leads-along p (ev ∷ []) c (a.part ∷ before ++ after) (before ++ a.part ∷ after) (b.part ∷ before ++ after)
+    leads-along p (ev ∷ []) c (a.part ∷ before ++ after) (before ++ a.part ∷ after)
+    (b.part ∷ before ++ after)
     (before ++ b.part ∷ after) (k.content ∷ earlier ++ later) (earlier ++ k.content ∷ later)
-    (λ s h. supplied-focus s before after a.part h) (λ s h. supplied-unfocus s before after b.part h)
+    (λ s h. supplied-focus s before after a.part h)
+    (λ s h. supplied-unfocus s before after b.part h)
     (λ d h. whole-unfocus before after b.part (earlier ++ k.content ∷ later) d
     (whole-unfocus_content (b.part ∷ before ++ after) earlier later k.content d h))
-    (leads-one p ev c (a.part ∷ before ++ after) (b.part ∷ before ++ after) (k.content ∷ earlier ++ later)
+    (leads-one p ev c (a.part ∷ before ++ after) (b.part ∷ before ++ after)
+    (k.content ∷ earlier ++ later)
     (exit-step p ev a b k (before ++ after) (earlier ++ later) c e
     (whole-focus before after a.part (earlier ++ later) c w)))

@@ -1,5 +1,6 @@
 -- The return of the procedure that sets the resources up is a step, which hands their contents out.
--- Names: `settle-LAW`; `out-LAW` speaks of what is handed out, `from-LAW` of contents of resources in their order.
+-- Names: `settle-LAW`; `out-LAW` speaks of what is handed out, `from-LAW` of contents of resources
+-- in their order.
 use Rattle.std.specs.Prelude.{◌≡◌, ◌⊎◌, ℕ, suc, ◌+◌, ◌<◌, ◌≤◌, ◌==◌, cond, List, [], ◌∷◌, ◌++◌, length, map, Option, Some, None}
 use Rattle.std.specs.List.{AllByRecursion}
 use Rattle.std.proofs.Common.{sym, ap, ◌∙◌, refl, subst, inl, inr, arith}
@@ -29,49 +30,62 @@ use Rattle.sf_part.proofs.Unions.{union-focus_tail, union-part, union-unsecond}
 
 -- What is handed out
 -- one content
-out-one : (less all : Part) (k : Content) (others : List Part) (contents : List Content) (s : Common)
+out-one : (less all : Part) (k : Content) (others : List Part) (contents : List Content)
+    (s : Common)
     → HasInHand less k all → Beside all others contents s → Beside less others (k ∷ contents) s
 out-one less all k others contents s h b = record {
   heap = union-unsecond less.heap (map part_heap others) k.heap (map content_heap contents) s.heap
-      (union-part s.heap all.heap less.heap k.heap (map part_heap others ++ map content_heap contents) h.heap b.heap);
-  store = union-unsecond less.store (map part_store others) k.store (map content_store contents) s.store
-      (union-part s.store all.store less.store k.store (map part_store others ++ map content_store contents) h.store
+      (union-part s.heap all.heap less.heap k.heap
+      (map part_heap others ++ map content_heap contents) h.heap b.heap);
+  store = union-unsecond less.store (map part_store others) k.store (map content_store contents)
+      s.store
+      (union-part s.store all.store less.store k.store
+      (map part_store others ++ map content_store contents) h.store
       b.store);
   held = subst (λ z. IsUnion s.held (z ∷ map holders others)) (hand-holders less k all h) b.held;
 }
 
 -- a content in the middle may come first
-out-focus : (m : Part) (others : List Part) (before : List Content) (k : Content) (after : List Content) (s : Common)
+out-focus : (m : Part) (others : List Part) (before : List Content) (k : Content)
+    (after : List Content) (s : Common)
     → Beside m others (before ++ k ∷ after) s → Beside m others (k ∷ before ++ after) s
 out-focus m others before k after s b = record {
   heap = union-focus_tail content_heap (m.heap ∷ map part_heap others) before k after s.heap b.heap;
-  store = union-focus_tail content_store (m.store ∷ map part_store others) before k after s.store b.store;
+  store = union-focus_tail content_store (m.store ∷ map part_store others) before k after s.store
+      b.store;
   held = b.held;
 }
 
 -- all of them, before those that are there
-out-all : (all rest : Part) (out : List TimedContent) (others : List Part) (contents : List Content) (s : Common)
-    → HandsOut all out rest → Beside all others contents s → Beside rest others (contents_of out ++ contents) s
+out-all : (all rest : Part) (out : List TimedContent) (others : List Part) (contents : List Content)
+    (s : Common)
+    → HandsOut all out rest → Beside all others contents s
+    → Beside rest others (contents_of out ++ contents) s
 out-all all rest [] others contents s h b = subst (λ z. Beside z others contents s) (sym h) b
 out-all all rest (k ∷ out) others contents s (less, h, hs) b =
     out-focus rest others (contents_of out) k.content contents s
-    (out-all less rest out others (k.content ∷ contents) s hs (out-one less all k.content others contents s h b))
+    (out-all less rest out others (k.content ∷ contents) s hs
+    (out-one less all k.content others contents s h b))
 
 -- the task, how it stands, what it holds and its units stay
-out-task : (all rest : Part) (out : List TimedContent) → HandsOut all out rest → all.task ≡ rest.task
+out-task : (all rest : Part) (out : List TimedContent) → HandsOut all out rest
+    → all.task ≡ rest.task
 out-task all rest [] h = ap (λ (z : Part). z.task) (sym h)
 out-task all rest (k ∷ out) (less, h, hs) = h.task ∙ out-task less rest out hs
 
-out-stand : (all rest : Part) (out : List TimedContent) → HandsOut all out rest → all.stand ≡ rest.stand
+out-stand : (all rest : Part) (out : List TimedContent) → HandsOut all out rest
+    → all.stand ≡ rest.stand
 out-stand all rest [] h = ap (λ (z : Part). z.stand) (sym h)
 out-stand all rest (k ∷ out) (less, h, hs) = h.stand ∙ out-stand less rest out hs
 
-pub out-supply : (all rest : Part) (out : List TimedContent) → HandsOut all out rest → all.supply ≡ rest.supply
+pub out-supply : (all rest : Part) (out : List TimedContent) → HandsOut all out rest
+    → all.supply ≡ rest.supply
 out-supply all rest [] h = ap (λ (z : Part). z.supply) (sym h)
 out-supply all rest (k ∷ out) (less, h, hs) = h.supply ∙ out-supply less rest out hs
 
 -- Contents in the order of their resources
-from-low : (r : ResId) (n : ℕ) (out : List TimedContent) → AreFrom n out → r.0 < n → of_resource r (contents_of out) ≡ 0
+from-low : (r : ResId) (n : ℕ) (out : List TimedContent) → AreFrom n out → r.0 < n
+    → of_resource r (contents_of out) ≡ 0
 from-low r n [] a l = refl
 from-low r n (k ∷ out) (e, a) l =
     let s = of_resource-cons r k.content (contents_of out) in
@@ -92,7 +106,8 @@ from-high r n (k ∷ out) (e, a) l =
       | inr t ↦ let o : one_if (k.content.resource.0 == r.0) ≡ 0 = ap one_if t.0 in omega arith
     ]
 
-pub from-once : (r : ResId) (n : ℕ) (out : List TimedContent) → AreFrom n out → of_resource r (contents_of out) ≤ 1
+pub from-once : (r : ResId) (n : ℕ) (out : List TimedContent) → AreFrom n out
+    → of_resource r (contents_of out) ≤ 1
 from-once r n [] a = omega arith
 from-once r n (k ∷ out) (e, a) =
     let s = of_resource-cons r k.content (contents_of out) in
@@ -114,7 +129,8 @@ of_resource-append r (k ∷ one) two =
     let t = of_resource-cons r k one in
     omega arith
 
-all-hold : (P : Content → Type 0) (contents : List Content) → ((k : Content) → P k) → AllByRecursion P contents
+all-hold : (P : Content → Type 0) (contents : List Content) → ((k : Content) → P k)
+    → AllByRecursion P contents
 all-hold P [] f = tt
 all-hold P (k ∷ contents) f = (f k, all-hold P contents f)
 
@@ -135,7 +151,8 @@ settle-frees p (joins frames one two) path x y h m = absurd h
 settle-frees p nothing path x y h m = absurd h
 
 -- the return of the first part's task is a step
-settle-step : (p : Program) (ev : Event) (a b : TimedPart) (out : List TimedContent) (others : List Part)
+settle-step : (p : Program) (ev : Event) (a b : TimedPart) (out : List TimedContent)
+    (others : List Part)
     (contents : List Content) (c : Config) → Settles p ev a out b
     → ((r : ResId) (path : Path) → c.common.held r ≡ Some path → r.0 < length p.resources)
     → Whole (a.part ∷ others) contents c
@@ -155,7 +172,8 @@ settle-step p ev a b out others contents c e known w =
     let freed : (r : ResId) → s.after.held r ≡ None = λ r. (
     let m = settle-moves p what r e.settling in
     s.moved r m ∙ settle-frees p what ev.task (holders a.part r) (holders e.all r) e.settling
-    (moved-by_next p ev (common_of a.part) (common_of e.all) what (runs e.kept) e.acts.steps r m)) in
+    (moved-by_next p ev (common_of a.part) (common_of e.all) what (runs e.kept) e.acts.steps r m))
+    in
     let there = subst (λ z. task_at z c.tasks ≡ Some (runs e.frames)) (sym e.acts.own)
     (tasks-runs c.tasks a.part (map own_stand others) e.frames w.tasks e.acts.from_is) in
     record {
@@ -163,18 +181,22 @@ settle-step p ev a b out others contents c e known w =
       step = next-step p ev c (runs e.frames) (runs e.kept) s.after number.used there s.steps;
       whole = record {
         tasks = subst
-            (λ z. IsUnion (stands (put_task z (runs e.kept) c.tasks)) (own_stand b.part ∷ map own_stand others))
+            (λ z. IsUnion (stands (put_task z (runs e.kept) c.tasks))
+            (own_stand b.part ∷ map own_stand others))
             (sym e.acts.own)
-            (tasks-run c.tasks a.part b.part (map own_stand others) e.frames e.kept w.tasks e.acts.from_is
+            (tasks-run c.tasks a.part b.part (map own_stand others) e.frames e.kept w.tasks
+            e.acts.from_is
             (sym (out-task e.all b.part out e.out) ∙ e.acts.task)
             (sym (out-stand e.all b.part out e.out) ∙ e.acts.to_is));
         heap = beside.heap;
         store = beside.store;
         held = beside.held;
-        free = all-hold (λ (k : Content). s.after.held k.resource ≡ None) (contents_of out ++ contents) (λ k. freed k.resource);
+        free = all-hold (λ (k : Content). s.after.held k.resource ≡ None)
+            (contents_of out ++ contents) (λ k. freed k.resource);
         different = λ r. one_each r (cases_lt r.0 (length p.resources));
         once = spent-once ev (a.part ∷ others) (b.part ∷ others) spent w.once;
-        unused = spent-unused ev (a.part ∷ others) (b.part ∷ others) c s.after (runs e.kept) spent w.once w.unused
+        unused = spent-unused ev (a.part ∷ others) (b.part ∷ others) c s.after (runs e.kept) spent
+            w.once w.unused
             s.unused;
       };
       takes = shares-run ev c a.part b.part others e.frames e.kept e.acts.own there
@@ -198,7 +220,8 @@ settle-step p ev a b out others contents c e known w =
         → of_resource r (contents_of out ++ contents) ≤ 1
     one_each r (inl l) =
         let m = mine r l in
-        let none = count-held r a.part.task c.common contents (splits-has_left r a.part.task w.held.1 m) w.free in
+        let none = count-held r a.part.task c.common contents
+        (splits-has_left r a.part.task w.held.1 m) w.free in
         let sum = of_resource-append r (contents_of out) contents in
         let one = from-once r 0 out e.in_order in
         omega arith
@@ -210,15 +233,21 @@ settle-step p ev a b out others contents c e known w =
         omega arith
 
 -- that of a part in the middle
-pub settling-leads : (p : Program) (ev : Event) (a b : TimedPart) (out : List TimedContent) (before after : List Part)
+pub settling-leads : (p : Program) (ev : Event) (a b : TimedPart) (out : List TimedContent)
+    (before after : List Part)
     (contents : List Content) (c : Config) → Settles p ev a out b
     → ((r : ResId) (path : Path) → c.common.held r ≡ Some path → r.0 < length p.resources)
     → Whole (before ++ a.part ∷ after) contents c
-    → Leads p (ev ∷ []) c (before ++ a.part ∷ after) (before ++ b.part ∷ after) (contents_of out ++ contents)
+    → Leads p (ev ∷ []) c (before ++ a.part ∷ after) (before ++ b.part ∷ after)
+    (contents_of out ++ contents)
 settling-leads p ev a b out before after contents c e known w =
-    leads-along p (ev ∷ []) c (a.part ∷ before ++ after) (before ++ a.part ∷ after) (b.part ∷ before ++ after)
+    leads-along p (ev ∷ []) c (a.part ∷ before ++ after) (before ++ a.part ∷ after)
+    (b.part ∷ before ++ after)
     (before ++ b.part ∷ after) (contents_of out ++ contents) (contents_of out ++ contents)
-    (λ s h. supplied-focus s before after a.part h) (λ s h. supplied-unfocus s before after b.part h)
+    (λ s h. supplied-focus s before after a.part h)
+    (λ s h. supplied-unfocus s before after b.part h)
     (λ d h. whole-unfocus before after b.part (contents_of out ++ contents) d h)
-    (leads-one p ev c (a.part ∷ before ++ after) (b.part ∷ before ++ after) (contents_of out ++ contents)
-    (settle-step p ev a b out (before ++ after) contents c e known (whole-focus before after a.part contents c w)))
+    (leads-one p ev c (a.part ∷ before ++ after) (b.part ∷ before ++ after)
+    (contents_of out ++ contents)
+    (settle-step p ev a b out (before ++ after) contents c e known
+    (whole-focus before after a.part contents c w)))

@@ -27,7 +27,8 @@ count-cons n m ns = sum_by-cons (λ (k : ℕ). cond (k == n) 1 0) m ns
 pub count-contains : (n : ℕ) (ns : List ℕ) → Contains ns n → 1 ≤ times n ns
 count-contains n ns (i, within, is) =
     let h = get_or-le-sum_by (λ (m : ℕ). cond (m == n) 1 0) ns i n within in
-    let e : one_if (get_or ns i n == n) ≡ 1 = ap (λ z. one_if (z == n)) is ∙ ap one_if (at-self n) in
+    let e : one_if (get_or ns i n == n) ≡ 1 = ap (λ z. one_if (z == n)) is
+    ∙ ap one_if (at-self n) in
     omega arith
 
 -- a number that counts is there
@@ -36,7 +37,8 @@ contains-count n [] h = absurd (omega arith)
 contains-count n (m ∷ ns) h = go (eqb_tells m n) (count-cons n m ns) (λ k. contains-count n ns k)
   where
     go : (((m == n) ≡ true) × (m ≡ n)) ⊎ (((m == n) ≡ false) × (m ≢ n))
-        → times n (m ∷ ns) ≡ one_if (m == n) + times n ns → (1 ≤ times n ns → Contains ns n) → Contains (m ∷ ns) n
+        → times n (m ∷ ns) ≡ one_if (m == n) + times n ns → (1 ≤ times n ns → Contains ns n)
+        → Contains (m ∷ ns) n
     go (inl e) sum more = (contains-cons m ns n).1 (inl e.1)
     go (inr e) sum more = (contains-cons m ns n).1 (inr (more (let k : one_if (m == n) ≡ 0 =
         ap one_if e.0 in omega arith)))

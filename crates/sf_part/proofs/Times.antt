@@ -26,7 +26,8 @@ stamps_rise p event a b = (
 
 -- stamps that are at most a number are at most a greater one
 logged-later : (low high : ℕ) (log : List Stamped) → low ≤ high
-    → AllByRecursion (λ (e : Stamped). e.stamp ≤ low) log → AllByRecursion (λ (e : Stamped). e.stamp ≤ high) log
+    → AllByRecursion (λ (e : Stamped). e.stamp ≤ low) log
+    → AllByRecursion (λ (e : Stamped). e.stamp ≤ high) log
 logged-later low high [] l h = tt
 logged-later low high (e ∷ log) l (x, h) = (omega arith, logged-later low high log l h)
 
@@ -41,7 +42,8 @@ noted-none true e h = absurd (true≢false h)
 noted-none false e h = refl
 
 -- an event leaves a part in time that had room for it
-notes-in_time : (clock : ℕ) (log : List Stamped) (event : Event) (a b : TimedPart) → Notes clock log event a b
+notes-in_time : (clock : ℕ) (log : List Stamped) (event : Event) (a b : TimedPart)
+    → Notes clock log event a b
     → AllByRecursion (λ (e : Stamped). e.stamp ≤ clock) log → (a.keeps ≡ false → log ≡ [])
     → clock + suc (length (numbers b.part.supply)) ≤ STEPS → IsInTime b
 notes-in_time clock log event a b n logged unlogged room =
@@ -50,7 +52,8 @@ notes-in_time clock log event a b n logged unlogged room =
     record {
       logged = subst (λ z. AllByRecursion (λ (e : Stamped). e.stamp ≤ b.clock) z) (sym n.log_is)
           (all_by-append (λ (e : Stamped). e.stamp ≤ b.clock) log (noted a.keeps entry)
-          (logged-later clock b.clock log (omega arith) logged) (noted-within a.keeps entry b.clock (omega arith)));
+          (logged-later clock b.clock log (omega arith) logged)
+          (noted-within a.keeps entry b.clock (omega arith)));
       within = omega arith;
       unlogged = λ h.
           let off : a.keeps ≡ false = sym n.keeps ∙ h in
@@ -65,7 +68,8 @@ pub private_events_stay_in_time : PrivateEventsStayInTime
 unfolding PrivateEventsStayInTime
 private_events_stay_in_time p event a b e t =
     let u = left-after (numbers a.part.supply) (numbers b.part.supply) event.number
-    (takes-one event (next (runs e.frames)) (numbers a.part.supply) (numbers b.part.supply) e.spends) in
+    (takes-one event (next (runs e.frames)) (numbers a.part.supply) (numbers b.part.supply)
+    e.spends) in
     let w = t.within in
     notes-in_time a.clock a.log event a b e.notes t.logged t.unlogged (omega arith)
 
@@ -73,9 +77,11 @@ pub entries_stay_in_time : EntriesStayInTime
 unfolding EntriesStayInTime
 entries_stay_in_time p event a b k e room t =
     let u = left-after (numbers a.part.supply) (numbers b.part.supply) event.number
-    (takes-one event (next (runs e.frames)) (numbers a.part.supply) (numbers b.part.supply) e.spends) in
+    (takes-one event (next (runs e.frames)) (numbers a.part.supply) (numbers b.part.supply)
+    e.spends) in
     notes-in_time (max a.clock k.stamp) a.log event a b e.notes
-    (logged-later a.clock (max a.clock k.stamp) a.log (omega arith) t.logged) t.unlogged (omega arith)
+    (logged-later a.clock (max a.clock k.stamp) a.log (omega arith) t.logged) t.unlogged
+    (omega arith)
 
 pub exits_stay_in_time : ExitsStayInTime
 unfolding ExitsStayInTime
@@ -98,7 +104,8 @@ settling_stays_in_time p event a b settled e t =
 pub forks_stay_in_time : ForksStayInTime
 unfolding ForksStayInTime
 forks_stay_in_time p event a b one two e t =
-    let u = left-after (numbers a.part.supply) (numbers one.part.supply ++ numbers two.part.supply) event.number
+    let u = left-after (numbers a.part.supply) (numbers one.part.supply ++ numbers two.part.supply)
+    event.number
     (takes-fork event (next (runs e.frames)) (numbers a.part.supply) (numbers one.part.supply)
     (numbers two.part.supply) e.fork e.spends) in
     let v = length-append (numbers one.part.supply) (numbers two.part.supply) in
@@ -109,12 +116,14 @@ forks_stay_in_time p event a b one two e t =
     let r = e.right_begins.clock in (
       notes-in_time a.clock a.log event a b e.notes t.logged t.unlogged (omega arith),
       record {
-        logged = subst (λ z. AllByRecursion (λ (x : Stamped). x.stamp ≤ one.clock) z) (sym e.left_begins.log) tt;
+        logged = subst (λ z. AllByRecursion (λ (x : Stamped). x.stamp ≤ one.clock) z)
+            (sym e.left_begins.log) tt;
         within = omega arith;
         unlogged = λ h. e.left_begins.log;
       },
       record {
-        logged = subst (λ z. AllByRecursion (λ (x : Stamped). x.stamp ≤ two.clock) z) (sym e.right_begins.log) tt;
+        logged = subst (λ z. AllByRecursion (λ (x : Stamped). x.stamp ≤ two.clock) z)
+            (sym e.right_begins.log) tt;
         within = omega arith;
         unlogged = λ h. e.right_begins.log;
       },
@@ -124,14 +133,17 @@ pub joins_stay_in_time : JoinsStayInTime
 unfolding JoinsStayInTime
 joins_stay_in_time p event a one two b e room t l r =
     let top = max a.clock (max one.clock two.clock) in
-    let u = left-after (numbers one.part.supply ++ numbers two.part.supply) (numbers b.part.supply) event.number
+    let u = left-after (numbers one.part.supply ++ numbers two.part.supply) (numbers b.part.supply)
+    event.number
     (takes-join event (next (waits e.frames (runs []) (runs []))) (numbers one.part.supply)
     (numbers two.part.supply) (numbers b.part.supply) e.spends) in
     let v = length-append (numbers one.part.supply) (numbers two.part.supply) in
     let P = λ (x : Stamped). x.stamp ≤ top in
     notes-in_time top (a.log ++ (one.log ++ two.log)) event a b e.notes
-    (all_by-append P a.log (one.log ++ two.log) (logged-later a.clock top a.log (omega arith) t.logged)
+    (all_by-append P a.log (one.log ++ two.log)
+    (logged-later a.clock top a.log (omega arith) t.logged)
     (all_by-append P one.log two.log (logged-later one.clock top one.log (omega arith) l.logged)
     (logged-later two.clock top two.log (omega arith) r.logged)))
     (λ h. ap₂ (λ x y. x ++ y) (t.unlogged h)
-    (ap₂ (λ x y. x ++ y) (l.unlogged (e.left_keeps ∙ h)) (r.unlogged (e.right_keeps ∙ h)))) (omega arith)
+    (ap₂ (λ x y. x ++ y) (l.unlogged (e.left_keeps ∙ h)) (r.unlogged (e.right_keeps ∙ h))))
+    (omega arith)

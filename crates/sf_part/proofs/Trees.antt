@@ -1,7 +1,7 @@
--- Binary trees whose nodes have labels at their paths, and what comes of them where a leaf is changed, becomes a node
--- with two leaves, or such a node a leaf.
--- Names: `path-LAW` speaks of paths, `at-LAW` of the tree at a path, `labels-LAW` of all labels, `trees-LAW` of labels
--- that are the union of some at one path and others.
+-- Binary trees whose nodes have labels at their paths, and what comes of them where a leaf is
+-- changed, becomes a node with two leaves, or such a node a leaf.
+-- Names: `path-LAW` speaks of paths, `at-LAW` of the tree at a path, `labels-LAW` of all labels,
+-- `trees-LAW` of labels that are the union of some at one path and others.
 use Rattle.std.specs.Prelude.{◌≡◌, Bool, true, false, cond, List, [], ◌∷◌, ◌++◌, Option, Some, None}
 use Rattle.std.specs.Option.{option_map}
 use Rattle.std.proofs.Common.{true≢false, sym, ap, ◌∙◌, refl, subst}
@@ -129,14 +129,17 @@ module _ {A : Type 0} where
   labels-node (left ∷ path) q (leaf z) x y one two e = absurd (cc)
   labels-node (right ∷ path) q (leaf z) x y one two e = absurd (cc)
   labels-node (left ∷ path) [] (node z a b) x y one two e = refl
-  labels-node (left ∷ path) (left ∷ q) (node z a b) x y one two e = labels-node path q a x y one two e
+  labels-node (left ∷ path) (left ∷ q) (node z a b) x y one two e = labels-node path q a x y one two
+      e
   labels-node (left ∷ path) (right ∷ q) (node z a b) x y one two e = refl
   labels-node (right ∷ path) [] (node z a b) x y one two e = refl
   labels-node (right ∷ path) (left ∷ q) (node z a b) x y one two e = refl
-  labels-node (right ∷ path) (right ∷ q) (node z a b) x y one two e = labels-node path q b x y one two e
+  labels-node (right ∷ path) (right ∷ q) (node z a b) x y one two e = labels-node path q b x y one
+      two e
 
   -- a node with two leaves becomes a leaf
-  labels-back : (path q : Path) (t : Tree A) (x y one two : A) → at path t ≡ Some (node x (leaf one) (leaf two))
+  labels-back : (path q : Path) (t : Tree A) (x y one two : A)
+      → at path t ≡ Some (node x (leaf one) (leaf two))
       → labels (put path (leaf y) t) q ≡ three path (Some y) None None (labels t) q
   labels-back [] [] t x y one two e = refl
   labels-back [] (left ∷ []) t x y one two e = refl
@@ -155,11 +158,13 @@ module _ {A : Type 0} where
   labels-back (left ∷ path) q (leaf z) x y one two e = absurd (cc)
   labels-back (right ∷ path) q (leaf z) x y one two e = absurd (cc)
   labels-back (left ∷ path) [] (node z a b) x y one two e = refl
-  labels-back (left ∷ path) (left ∷ q) (node z a b) x y one two e = labels-back path q a x y one two e
+  labels-back (left ∷ path) (left ∷ q) (node z a b) x y one two e = labels-back path q a x y one two
+      e
   labels-back (left ∷ path) (right ∷ q) (node z a b) x y one two e = refl
   labels-back (right ∷ path) [] (node z a b) x y one two e = refl
   labels-back (right ∷ path) (left ∷ q) (node z a b) x y one two e = refl
-  labels-back (right ∷ path) (right ∷ q) (node z a b) x y one two e = labels-back path q b x y one two e
+  labels-back (right ∷ path) (right ∷ q) (node z a b) x y one two e = labels-back path q b x y one
+      two e
 
   -- Labels at one path and others
   -- the entry at a path is there
@@ -170,10 +175,12 @@ module _ {A : Type 0} where
   one-more : (path : Path) (x : A) (others : Map Path A) → others path ≡ None
       → Splits (changed (at_path path) (Some x) others) (entry path x) others
   one-more path x others n =
-      splits-put_left (at_path path) path (Some x) (path-same path) n (splits-empty_left empty-holds)
+      splits-put_left (at_path path) path (Some x) (path-same path) n
+      (splits-empty_left empty-holds)
 
   -- outside of the entry's path the whole is as the others are
-  others-at : (whole rest : Map Path A) (path : Path) (x : A) → Splits whole (entry path x) rest → (q : Path)
+  others-at : (whole rest : Map Path A) (path : Path) (x : A) → Splits whole (entry path x) rest
+      → (q : Path)
       → at_path path q ≡ false → whole q ≡ rest q
   others-at whole rest path x s q e = splits-at_right q s (ap (λ b. cond b (Some x) None) e)
 
@@ -196,11 +203,13 @@ module _ {A : Type 0} where
       let here : o path ≡ None = splits-lacks_right path x s (entry-here path x) in
       let after : labels (put path (leaf y) t) ≡ changed (at_path path) (Some y) o =
       map-same _ _ (λ q. labels-leaf path q t x y there
-      ∙ cond-tells (same_path q path) (Some y) (labels t q) (o q) (others-at (labels t) o path x s q)) in
+      ∙ cond-tells (same_path q path) (Some y) (labels t q) (o q)
+      (others-at (labels t) o path x s q)) in
       (o, subst (λ z. Splits z (entry path y) o) (sym after) (one-more path y o here), u)
 
   -- the others have nothing at a child's path where there is a leaf
-  lacks-child : (t : Tree A) (path : Path) (turn : Turn) (x : A) (own rest : Map Path A) → at path t ≡ Some (leaf x)
+  lacks-child : (t : Tree A) (path : Path) (turn : Turn) (x : A) (own rest : Map Path A)
+      → at path t ≡ Some (leaf x)
       → Splits (labels t) own rest → rest (path ++ turn ∷ []) ≡ None
   lacks-child t path turn x own rest e s =
       (splits-lacks_both (path ++ turn ∷ []) s (ap (option_map label) (at-none path turn t x e))).1
@@ -219,15 +228,20 @@ module _ {A : Type 0} where
       let after : labels (put path (node y (leaf one) (leaf two)) t)
       ≡ three path (Some y) (Some one) (Some two) o =
       map-same _ _ (λ q. labels-node path q t x y one two there
-      ∙ three-tells (same_path q path) (same_path q (path ++ left ∷ [])) (same_path q (path ++ right ∷ []))
-      (Some y) (Some one) (Some two) (labels t q) (o q) (λ f g h. others-at (labels t) o path x s q f)) in
+      ∙ three-tells (same_path q path) (same_path q (path ++ left ∷ []))
+      (same_path q (path ++ right ∷ []))
+      (Some y) (Some one) (Some two) (labels t q) (o q)
+      (λ f g h. others-at (labels t) o path x s q f)) in
       let second = one-more (path ++ right ∷ []) two o at_right in
       let first = one-more (path ++ left ∷ []) one with_two
       (ap (λ z. cond z (Some two) (o (path ++ left ∷ []))) (path-siblings path) ∙ at_left) in
       let own = one-more path y with_one
       (ap (λ z. cond z (Some one) (with_two path)) (path-longer path left)
-      ∙ ap (λ z. cond z (Some two) (o path)) (path-longer path right) ∙ here) in
-      (with_one, subst (λ z. Splits z (entry path y) with_one) (sym after) own, (with_two, first, (o, second, u)))
+      ∙ ap (λ z. cond z (Some two) (o path)) (path-longer path right) ∙ here) in (
+        with_one,
+        subst (λ z. Splits z (entry path y) with_one) (sym after) own,
+        (with_two, first, (o, second, u)),
+      )
 
   -- what isn't there at a key isn't there when the key is taken away
   here-none : (b : Bool) (y : Option A) → (b ≡ true → y ≡ None) → cond b None y ≡ y
@@ -236,8 +250,10 @@ module _ {A : Type 0} where
 
   -- a node with two leaves becomes a leaf
   pub trees-back : (t : Tree A) (path : Path) (x y one two : A) (more : List (Map Path A))
-      → IsUnion (labels t) (entry path x ∷ entry (path ++ left ∷ []) one ∷ entry (path ++ right ∷ []) two ∷ more)
-      → at path t ≡ Some (node x (leaf one) (leaf two)) → IsUnion (labels (put path (leaf y) t)) (entry path y ∷ more)
+      → IsUnion (labels t) (entry path x ∷ entry (path ++ left ∷ []) one
+      ∷ entry (path ++ right ∷ []) two ∷ more)
+      → at path t ≡ Some (node x (leaf one) (leaf two))
+      → IsUnion (labels (put path (leaf y) t)) (entry path y ∷ more)
   trees-back t path x y one two more (a, s, (b, r, (o, u, v))) there =
       let pl = path ++ left ∷ [] in
       let pr = path ++ right ∷ [] in
@@ -245,13 +261,16 @@ module _ {A : Type 0} where
       subst (λ z. o z ≡ None) (sym (path-same pl q h))
       (splits-lacks_both pl u (splits-lacks_right pl one r (entry-here pl one))).1 in
       let lacks_right : (q : Path) → same_path q pr ≡ true → o q ≡ None = λ q h.
-      subst (λ z. o z ≡ None) (sym (path-same pr q h)) (splits-lacks_right pr two u (entry-here pr two)) in
+      subst (λ z. o z ≡ None) (sym (path-same pr q h))
+      (splits-lacks_right pr two u (entry-here pr two)) in
       let here : o path ≡ None = (splits-lacks_both path u (splits-lacks_both path r
       (splits-lacks_right path x s (entry-here path x))).1).1 in
       let after : labels (put path (leaf y) t) ≡ changed (at_path path) (Some y) o =
       map-same _ _ (λ q. labels-back path q t x y one two there
-      ∙ three-tells (same_path q path) (same_path q pl) (same_path q pr) (Some y) None None (labels t q) (o q)
-      (λ f g h. others-at (labels t) a path x s q f ∙ others-at a b pl one r q g ∙ others-at b o pr two u q h)
+      ∙ three-tells (same_path q path) (same_path q pl) (same_path q pr) (Some y) None None
+      (labels t q) (o q)
+      (λ f g h. others-at (labels t) a path x s q f ∙ others-at a b pl one r q g
+      ∙ others-at b o pr two u q h)
       ∙ ap (λ z. cond (same_path q path) (Some y) z)
       (ap (λ z. cond (same_path q pl) None z) (here-none (same_path q pr) (o q) (lacks_right q))
       ∙ here-none (same_path q pl) (o q) (lacks_left q))) in

@@ -46,7 +46,8 @@ assigning_is_private = record {
 pub other_numbers_are_not_taken : OtherNumbersAreNotTaken
 unfolding OtherNumbersAreNotTaken
 other_numbers_are_not_taken path b e =
-    let t = takes-one (event path 6) (next (runs e.frames)) (5 ∷ 6 ∷ []) (numbers b.part.supply) e.spends in
+    let t = takes-one (event path 6) (next (runs e.frames)) (5 ∷ 6 ∷ []) (numbers b.part.supply)
+    e.spends in
     let h : ◌≡◌ {A = ℕ} 5 6 = cc in
     absurd (omega arith)
 
@@ -77,8 +78,10 @@ abbrev inside_frames : List Frame
 inside_frames = frame (leave lock ∷ []) ∷ []
 
 -- the condition's variable is the content's
-entering-slots : HasSlots (record (entering.part) { store = shared_slot nil }) (next (runs (frame enters ∷ [])))
-entering-slots slot (inl (inl h)) = let same : slot ≡ shared lock 0 = cc in (nil, ap (shared_slot nil) same)
+entering-slots : HasSlots (record (entering.part) { store = shared_slot nil })
+    (next (runs (frame enters ∷ [])))
+entering-slots slot (inl (inl h)) = let same : slot ≡ shared lock 0 = cc in
+    (nil, ap (shared_slot nil) same)
 entering-slots slot (inl (inr h)) = absurd h
 entering-slots slot (inr h) = absurd h
 
@@ -113,9 +116,11 @@ pub false_conditions_are_not_entered : FalseConditionsAreNotEntered
 unfolding FalseConditionsAreNotEntered
 false_conditions_are_not_entered ev b e =
     let same = frames-are (frame enters ∷ []) e.frames (sym e.hand.stand ∙ e.acts.from_is) in
-    let step = subst (λ z. TaskStep forking ev (common_of e.both) (runs z) (common_of b.part) (runs e.kept)) (sym same)
+    let step = subst (λ z. TaskStep forking ev (common_of e.both) (runs z) (common_of b.part)
+    (runs e.kept)) (sym same)
     e.acts.steps in
-    let there : e.both.store (shared lock 0) ≡ Some (loc 1) = splits-has_right (shared lock 0) (loc 1) e.hand.store refl in
+    let there : e.both.store (shared lock 0) ≡ Some (loc 1) = splits-has_right (shared lock 0)
+    (loc 1) e.hand.store refl in
     let h : loc 1 ≡ nil = sym (ap (λ o. unwrap_or o nil) there) ∙ step.1 in
     absurd (cc)
 
@@ -153,7 +158,8 @@ exits_with_content = record {
     steps = (
       refl,
       ap (λ h. record (common_of (record (outside.part) { store = shared_slot nil })) { held = h })
-          (map-same _ (set_holder lock None (common_of inside.part)).held (λ r. freed (r.0 == 0) (left ∷ []))),
+          (map-same _ (set_holder lock None (common_of inside.part)).held
+          (λ r. freed (r.0 == 0) (left ∷ []))),
       refl,
     );
     slots = λ slot h. elim h [ inl r ↦ absurd r | inr w ↦ absurd w ];
@@ -240,13 +246,15 @@ halves ev us rest ones twos b one two a e is n first t d =
 pub halves_are_exact : HalvesAreExact
 unfolding HalvesAreExact
 halves_are_exact ev b one two e =
-    halves ev (5 ∷ 6 ∷ 7 ∷ 8 ∷ 9 ∷ []) (6 ∷ 7 ∷ 8 ∷ 9 ∷ []) (6 ∷ 7 ∷ []) (8 ∷ 9 ∷ []) b one two (forker 5) e refl 5 refl
+    halves ev (5 ∷ 6 ∷ 7 ∷ 8 ∷ 9 ∷ []) (6 ∷ 7 ∷ 8 ∷ 9 ∷ []) (6 ∷ 7 ∷ []) (8 ∷ 9 ∷ []) b one two
+    (forker 5) e refl 5 refl
     refl refl
 
 pub left_halves_are_rounded_down : LeftHalvesAreRoundedDown
 unfolding LeftHalvesAreRoundedDown
 left_halves_are_rounded_down ev b one two e =
-    halves ev (5 ∷ 6 ∷ 7 ∷ 8 ∷ []) (6 ∷ 7 ∷ 8 ∷ []) (6 ∷ []) (7 ∷ 8 ∷ []) b one two (forker 4) e refl 5 refl refl refl
+    halves ev (5 ∷ 6 ∷ 7 ∷ 8 ∷ []) (6 ∷ 7 ∷ 8 ∷ []) (6 ∷ []) (7 ∷ 8 ∷ []) b one two (forker 4) e
+    refl 5 refl refl refl
 
 pub joins_take_the_left_units_first : JoinsTakeTheLeftUnitsFirst
 unfolding JoinsTakeTheLeftUnitsFirst

@@ -2,4 +2,5 @@
 -- worked examples.
 pub mod Laws
 pub mod LawsOfTime
+pub mod LawsOfWhole
 pub mod Examples

@@ -1,5 +1,7 @@
--- The events of a part: steps of the machine on what the part has, each with the part's next unit as its number.
--- O'Hearn (2007), Brookes (2007): a task acts on what it owns, and what is owned crosses at regions, forks and joins.
+-- The events of a part: steps of the machine on what the part has, each with the part's next unit
+-- as its number.
+-- O'Hearn (2007), Brookes (2007): a task acts on what it owns, and what is owned crosses at
+-- regions, forks and joins.
 use Rattle.std.specs.Prelude.{◌≡◌, ◌⊎◌, ◌<◌, ℕ, suc, max, true, false, List, [], ◌∷◌, ◌++◌, length, Some}
 use Rattle.std.specs.List.{AllByRecursion}
 use Rattle.sf_base.specs.declared.ids.ResId.{ResId}
@@ -20,13 +22,15 @@ use Rattle.sf_core.specs.Program.Init.{sets_up}
 use Rattle.sf_core.specs.Program.Syntax.{Call, Command, fork, with, Block, Program}
 use Rattle.sf_part.specs.Timed.{TimedPart, TimedContent, Notes}
 
--- what is shared, as a part sees it: its own cells and slots, and the resources that it holds itself
+-- what is shared, as a part sees it: its own cells and slots, and the resources that it holds
+-- itself
 abbrev pub common_of : Part → Common
 common_of a = record { heap = a.heap; store = a.store; held = holders a }
 
 -- the part has the slots that are read or written next
 abbrev pub HasSlots : Part → Next → Type 0
-HasSlots a what = (slot : Slot) → Reads a.store what (variable slot) ⊎ Writes a.store what (variable slot)
+HasSlots a what = (slot : Slot)
+    → Reads a.store what (variable slot) ⊎ Writes a.store what (variable slot)
     → (v : Value) × (a.store slot ≡ Some v)
 
 -- a step of the machine on what a part has, where its task goes from the one to the other
@@ -44,7 +48,8 @@ IsLocal (fork place c d) = ⊥
 IsLocal (with place r test body) = ⊥
 IsLocal c = Unit {0}
 
--- what a task does next is its own affair: such a command, or the return of a procedure that doesn't set the resources up
+-- what a task does next is its own affair: such a command, or the return of a procedure that
+-- doesn't set the resources up
 abbrev pub IsPrivate : Program → Next → Type 0
 IsPrivate p (does f below c rest) = IsLocal c
 IsPrivate p (leaves f below r rest) = ⊥
@@ -54,7 +59,8 @@ IsPrivate p nothing = ⊥
 
 -- the event's number is the next unit of the one part, and those after it are left in the other
 abbrev pub Spends : Event → Next → (before after : Part) → Type 0
-Spends event what before after = NextTakes event what (has (numbers before.supply)) (has (numbers after.supply))
+Spends event what before after = NextTakes event what (has (numbers before.supply))
+    (has (numbers after.supply))
 
 -- Private: an event that is the task's own affair
 pub record Private (p : Program) (event : Event) (before after : TimedPart) : Type 0 where
@@ -68,7 +74,8 @@ pub record Private (p : Program) (event : Event) (before after : TimedPart) : Ty
 -- Privates: private events, one after the other
 abbrev pub Privates : Program → TimedPart → List Event → TimedPart → Type 0
 Privates p a [] b = b ≡ a
-Privates p a (event ∷ events) b = (between : TimedPart) × Private p event a between × Privates p between events b
+Privates p a (event ∷ events) b = (between : TimedPart) × Private p event a between
+    × Privates p between events b
 
 -- the part with a content in hand: the content's cells and slots beside its own
 pub record HasInHand (part : Part) (content : Content) (both : Part) : Type 0 where
@@ -81,15 +88,17 @@ pub record HasInHand (part : Part) (content : Content) (both : Part) : Type 0 wh
 
 -- the next step is the entry of a region of that resource
 abbrev pub IsEntry : Next → ResId → Type 0
-IsEntry what r = (f : Fixed) × (below : List Frame) × (place : Place) × (test : Test Expr) × (body : Block)
-    × (rest : List Item) × (what ≡ does f below (with place r test body) rest)
+IsEntry what r = (f : Fixed) × (below : List Frame) × (place : Place) × (test : Test Expr)
+    × (body : Block) × (rest : List Item) × (what ≡ does f below (with place r test body) rest)
 
 -- the next step is the exit from one
 abbrev pub IsExit : Next → ResId → Type 0
-IsExit what r = (f : Fixed) × (below : List Frame) × (rest : List Item) × (what ≡ leaves f below r rest)
+IsExit what r = (f : Fixed) × (below : List Frame) × (rest : List Item)
+    × (what ≡ leaves f below r rest)
 
 -- Enters: the entry of a region, with the content of its resource in hand
-pub record Enters (p : Program) (event : Event) (before : TimedPart) (content : TimedContent) (after : TimedPart) :
+pub record Enters (p : Program) (event : Event) (before : TimedPart) (content : TimedContent)
+    (after : TimedPart) :
     Type 0 where
   pub both : Part
   pub hand : HasInHand before.part content.content both
@@ -101,7 +110,8 @@ pub record Enters (p : Program) (event : Event) (before : TimedPart) (content : 
   pub notes : Notes (max before.clock content.stamp) before.log event before after
 
 -- Exits: the exit from a region, which leaves a part with the content of its resource in hand
-pub record Exits (p : Program) (event : Event) (before : TimedPart) (content : TimedContent) (after : TimedPart) :
+pub record Exits (p : Program) (event : Event) (before : TimedPart) (content : TimedContent)
+    (after : TimedPart) :
     Type 0 where
   pub both : Part
   pub hand : HasInHand after.part content.content both
@@ -129,9 +139,11 @@ AreFrom number (k ∷ contents) = (k.content.resource.0 ≡ number) × AreFrom (
 -- the part hands these contents out, one after the other, and the rest is left
 abbrev pub HandsOut : Part → List TimedContent → Part → Type 0
 HandsOut all [] rest = rest ≡ all
-HandsOut all (k ∷ contents) rest = (less : Part) × HasInHand less k.content all × HandsOut less contents rest
+HandsOut all (k ∷ contents) rest = (less : Part) × HasInHand less k.content all
+    × HandsOut less contents rest
 
--- Settles: that return, by a task that holds all resources of the program, which leaves the content of each
+-- Settles: that return, by a task that holds all resources of the program, which leaves the content
+-- of each
 pub record Settles (p : Program) (event : Event) (before : TimedPart) (contents : List TimedContent)
     (after : TimedPart) : Type 0 where
   pub all : Part
@@ -164,10 +176,12 @@ pub record HasChildren (parent one two all : Part) : Type 0 where
 
 -- the next step is a parallel call
 abbrev pub IsFork : Next → Type 0
-IsFork what = (f : Fixed) × (below : List Frame) × (place : Place) × (one : Call) × (two : Call) × (rest : List Item)
+IsFork what = (f : Fixed) × (below : List Frame) × (place : Place) × (one : Call) × (two : Call)
+    × (rest : List Item)
     × (what ≡ does f below (fork place one two) rest)
 
--- a child that a fork made begins: it runs these frames, with the parent's clock, no log yet, and all its units to spend
+-- a child that a fork made begins: it runs these frames, with the parent's clock, no log yet, and
+-- all its units to spend
 pub record Begins (parent : TimedPart) (frames : List Frame) (child : TimedPart) : Type 0 where
   pub stand : child.part.stand ≡ running frames
   pub clock : child.clock ≡ parent.clock
@@ -175,7 +189,8 @@ pub record Begins (parent : TimedPart) (frames : List Frame) (child : TimedPart)
   pub log : child.log ≡ []
   pub given : child.given ≡ length (numbers child.part.supply)
 
--- Forks: a parallel call, after which the parent waits without units, and each child has its half of what was left
+-- Forks: a parallel call, after which the parent waits without units, and each child has its half
+-- of what was left
 pub record Forks (p : Program) (event : Event) (before after one two : TimedPart) : Type 0 where
   pub all : Part
   pub frames : List Frame
@@ -183,7 +198,8 @@ pub record Forks (p : Program) (event : Event) (before after one two : TimedPart
   pub left_frames : List Frame
   pub right_frames : List Frame
   pub fork : IsFork (next (runs frames))
-  pub acts : Acts p event before.part all (runs frames) (waits kept (runs left_frames) (runs right_frames))
+  pub acts : Acts p event before.part all (runs frames)
+      (waits kept (runs left_frames) (runs right_frames))
   pub children : HasChildren after.part one.part two.part all
   pub left_begins : Begins after left_frames one
   pub right_begins : Begins after right_frames two
@@ -192,7 +208,8 @@ pub record Forks (p : Program) (event : Event) (before after one two : TimedPart
   pub none_left : numbers after.part.supply ≡ []
   pub notes : Notes before.clock before.log event before after
 
--- Joins: the join of two children that have ended, with all that they have, what is left of their units among it
+-- Joins: the join of two children that have ended, with all that they have, what is left of their
+-- units among it
 pub record Joins (p : Program) (event : Event) (before one two after : TimedPart) : Type 0 where
   pub all : Part
   pub frames : List Frame
@@ -204,5 +221,7 @@ pub record Joins (p : Program) (event : Event) (before one two after : TimedPart
   pub right_ended : two.part.stand ≡ running []
   pub acts : Acts p event all after.part (waits frames (runs []) (runs [])) (runs kept)
   pub spends : NextTakes event (next (waits frames (runs []) (runs [])))
-      (lent (has (numbers one.part.supply)) (has (numbers two.part.supply))) (has (numbers after.part.supply))
-  pub notes : Notes (max before.clock (max one.clock two.clock)) (before.log ++ (one.log ++ two.log)) event before after
+      (lent (has (numbers one.part.supply)) (has (numbers two.part.supply)))
+      (has (numbers after.part.supply))
+  pub notes : Notes (max before.clock (max one.clock two.clock))
+      (before.log ++ (one.log ++ two.log)) event before after

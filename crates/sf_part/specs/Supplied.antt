@@ -1,5 +1,7 @@
--- Supplied: that the units of parts are those of a tree of supplies, from which a numbered run takes its numbers.
--- Fork-join parallelism, Lea, "A Java Fork/Join Framework" (2000): what a task has is split and handed back.
+-- Supplied: that the units of parts are those of a tree of supplies, from which a numbered run
+-- takes its numbers.
+-- Fork-join parallelism, Lea, "A Java Fork/Join Framework" (2000): what a task has is split and
+-- handed back.
 use Rattle.std.specs.Prelude.{ℕ, cond, List, map, Some, None}
 use Rattle.std.specs.Option.{option_map}
 use Rattle.sf_base.specs.HeapStore.{Map}

@@ -34,17 +34,19 @@ contents_of contents = map (λ (k : TimedContent). k.content) contents
 abbrev pub noted : Bool → Stamped → List Stamped
 noted keeps entry = cond keeps (entry ∷ []) []
 
--- what the part of an event's task notes of it, from a clock and a log on: the clock is one more, and is the event's
--- stamp; what it was given and whether it keeps a log stay
-pub record Notes (clock : ℕ) (log : List Stamped) (event : Event) (before after : TimedPart) : Type 0 where
+-- what the part of an event's task notes of it, from a clock and a log on: the clock is one more,
+-- and is the event's stamp; what it was given and whether it keeps a log stay
+pub record Notes (clock : ℕ) (log : List Stamped) (event : Event) (before after : TimedPart) : Type
+    0 where
   pub keeps : after.keeps ≡ before.keeps
   pub given : after.given ≡ before.given
   pub clock_is : after.clock ≡ suc clock
   pub log_is : after.log ≡ log ++ noted before.keeps
       (record { stamp = after.clock; task = event.task; number = event.number })
 
--- IsInTime: no stamp of the log is above the clock; the clock and the units that are left are together at most as many as
--- the events that a run may be given; and where no log is kept it is empty
+-- IsInTime: no stamp of the log is above the clock; the clock and the units that are left are
+-- together at most as many as the events that a run may be given; and where no log is kept it is
+-- empty
 pub record IsInTime (a : TimedPart) : Type 0 where
   pub logged : AllByRecursion (λ (entry : Stamped). entry.stamp ≤ a.clock) a.log
   pub within : a.clock + length (numbers a.part.supply) ≤ STEPS

@@ -3,9 +3,11 @@
 //!
 //! - `laws`: the law of parts.
 //! - `time`: clocks, stamps and logs.
+//! - `whole`: what a part tells of the whole.
 //! - `examples`: one event of each kind, and what there isn't.
 #![tactic(auto)]
 
 pub mod examples;
 pub mod laws;
 pub mod time;
+pub mod whole;

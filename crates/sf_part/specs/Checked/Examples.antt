@@ -65,7 +65,8 @@ assigning = timed (doing assigns (one_in (loc 1)) (range 5 2)) 3 []
 
 -- after event 5 the variable is nil, 6 is left, and the log has the event with the clock
 abbrev pub assigned : TimedPart
-assigned = timed (doing [] (λ slot. cond (same_slot slot (own 0 0)) (Some nil) (one_in (loc 1) slot)) (range 6 1)) 4
+assigned = timed (doing [] (λ slot. cond (same_slot slot (own 0 0)) (Some nil)
+    (one_in (loc 1) slot)) (range 6 1)) 4
     (noted_at 4 5 ∷ [])
 
 -- that is a private event
@@ -74,7 +75,8 @@ AssigningIsPrivate = Private forking (event (left ∷ []) 5) assigning assigned
 
 -- it has no other number
 unfoldable pub OtherNumbersAreNotTaken : Type 0
-OtherNumbersAreNotTaken = (path : Path) (b : TimedPart) → Private forking (event path 6) assigning b → ⊥
+OtherNumbersAreNotTaken = (path : Path) (b : TimedPart) → Private forking (event path 6) assigning b
+    → ⊥
 
 -- without units there is none
 unfoldable pub SpentPartsHaveNoEvent : Type 0
@@ -111,7 +113,8 @@ content v stamp = record {
 
 -- inside of the region, with the content, at a clock after the content's stamp
 abbrev pub inside : TimedPart
-inside = timed (record (doing (leave lock ∷ []) (shared_slot nil) (range 6 1)) { holds = λ r. r.0 == 0 }) 10
+inside = timed (record (doing (leave lock ∷ []) (shared_slot nil) (range 6 1))
+    { holds = λ r. r.0 == 0 }) 10
     (noted_at 10 5 ∷ [])
 
 -- the entry leads there
@@ -120,11 +123,13 @@ EntersWithContent = Enters forking (event (left ∷ []) 5) entering (content nil
 
 -- there is no entry where the condition is false of the content
 unfoldable pub FalseConditionsAreNotEntered : Type 0
-FalseConditionsAreNotEntered = (ev : Event) (b : TimedPart) → Enters forking ev entering (content (loc 1) 9) b → ⊥
+FalseConditionsAreNotEntered = (ev : Event) (b : TimedPart)
+    → Enters forking ev entering (content (loc 1) 9) b → ⊥
 
 -- nor one whose clock goes on from the task's own alone
 unfoldable pub EntriesComeAfterContents : Type 0
-EntriesComeAfterContents = (ev : Event) (b : TimedPart) → b.clock ≡ 4 → Enters forking ev entering (content nil 9) b
+EntriesComeAfterContents = (ev : Event) (b : TimedPart) → b.clock ≡ 4
+    → Enters forking ev entering (content nil 9) b
     → ⊥
 
 -- outside again, without the content and without units
@@ -137,7 +142,8 @@ ExitsWithContent = Exits forking (event (left ∷ []) 6) inside (content nil 11)
 
 -- it hasn't that of an earlier event
 unfoldable pub ContentsGetTheExitsStamp : Type 0
-ContentsGetTheExitsStamp = (ev : Event) (b : TimedPart) → Exits forking ev inside (content nil 10) b → ⊥
+ContentsGetTheExitsStamp = (ev : Event) (b : TimedPart) → Exits forking ev inside (content nil 10) b
+    → ⊥
 
 -- skip() || skip();
 abbrev pub forks : List Item
@@ -150,7 +156,8 @@ forker count = timed (doing forks no_slots (range 5 count)) 3 []
 -- what is shared after its event: the children have no variables
 abbrev pub opened : Common
 opened = open_room (room_for skip 5 (room_count skip)) (arguments entry_slot no_slots (calls 1 []))
-    (open_room (room_for skip 5 0) (arguments entry_slot no_slots (calls 1 [])) (common_of (forker 5).part))
+    (open_room (room_for skip 5 0) (arguments entry_slot no_slots (calls 1 []))
+    (common_of (forker 5).part))
 
 -- the parent waits, without units
 abbrev pub forked : TimedPart
@@ -185,10 +192,12 @@ HalvesAreExact = (ev : Event) (b one two : TimedPart) → Forks forking ev (fork
 
 -- of four units the left child has one, and the right one two
 unfoldable pub LeftHalvesAreRoundedDown : Type 0
-LeftHalvesAreRoundedDown = (ev : Event) (b one two : TimedPart) → Forks forking ev (forker 4) b one two
+LeftHalvesAreRoundedDown = (ev : Event) (b one two : TimedPart)
+    → Forks forking ev (forker 4) b one two
     → (numbers one.part.supply ≡ 6 ∷ []) × (numbers two.part.supply ≡ 7 ∷ 8 ∷ [])
 
--- a join takes the first unit that the left child has left, and what the right one has left comes last
+-- a join takes the first unit that the left child has left, and what the right one has left comes
+-- last
 unfoldable pub JoinsTakeTheLeftUnitsFirst : Type 0
 JoinsTakeTheLeftUnitsFirst = (ev : Event) (a one two b : TimedPart) → Joins forking ev a one two b
     → numbers one.part.supply ≡ 6 ∷ 7 ∷ [] → numbers two.part.supply ≡ 9 ∷ []

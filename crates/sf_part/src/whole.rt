@@ -1,0 +1,47 @@
+//! What a part tells of the whole that it belongs to. Each function is a law, and does nothing.
+
+ghost use Rattle.sf_part.specs.Checked.LawsOfWhole.{
+  ConditionsAreSeenAlike,
+  HeldAreOfTheProgram,
+  PartsHold,
+  RunningEntriesAreAlone,
+  RunningPartsRun,
+  WaitingPartsWait,
+};
+
+/// The task of a part that runs runs the part's frames.
+#[tactic(auto, using(crate::proofs::Seen::running_parts_run))]
+pub fn running_parts_run()
+    ensures { RunningPartsRun }
+{}
+
+/// The task of a part that waits waits with the part's frames.
+#[tactic(auto, using(crate::proofs::Seen::waiting_parts_wait))]
+pub fn waiting_parts_wait()
+    ensures { WaitingPartsWait }
+{}
+
+/// Beside the part of the entry's task, where that runs, there is no other.
+#[tactic(auto, using(crate::proofs::Seen::running_entries_are_alone))]
+pub fn running_entries_are_alone()
+    ensures { RunningEntriesAreAlone }
+{}
+
+/// What a part holds is held by its task.
+#[tactic(auto, using(crate::proofs::Seen::parts_hold))]
+pub fn parts_hold()
+    ensures { PartsHold }
+{}
+
+/// A condition whose variables a part with a content in hand has is true there exactly where it is
+/// true of the whole.
+#[tactic(auto, using(crate::proofs::Seen::conditions_are_seen_alike))]
+pub fn conditions_are_seen_alike()
+    ensures { ConditionsAreSeenAlike }
+{}
+
+/// Nothing but resources of the program is held in any configuration that a start reaches.
+#[tactic(auto, using(crate::proofs::Seen::held_are_of_the_program))]
+pub fn held_are_of_the_program()
+    ensures { HeldAreOfTheProgram }
+{}
