@@ -116,7 +116,7 @@ some-outcome l p f g fresh vars heap parts unit steps waits (waiting r) starts u
     (spent_waits_text p r waits, 6, (refl, refl))
 
 -- a name that a procedure has is one of a procedure
-some-procedure : (p : Program) (entry : Text) (f : ProcId) → IsEntry p entry f
+pub some-procedure : (p : Program) (entry : Text) (f : ProcId) → IsEntry p entry f
     → (g : Procedure) × (procedure_at p f ≡ Some g)
 some-procedure p entry f h = elim (some-or_none (slice_get p.procedures f.0)) [
   | inl found ↦ found

@@ -27,7 +27,7 @@ use Rattle.sf_cli.specs.FileFault.{Admits}
 use Rattle.sf_cli.specs.Checked.Laws.{AcceptedFilesAreSound, AcceptedProofsAreSound, AcceptedRunsAreSound}
 use Rattle.sf_cli.specs.Reads.{Reads}
 use Rattle.sf_cli.specs.Rechecked.{accepted, rejected}
-use Rattle.sf_words.specs.Words.{Text, Order, demo, order_of, ranking, recheck, run, verify}
+use Rattle.sf_words.specs.Words.{Text, Order, demo, order_of, ranking, recheck, replay, run, verify}
 
 -- a program that is read is in order
 pub accepted-formed : EachFileIsShallow → ElaboratedIsFormed → (bytes : Text) (p : Program) → Reads bytes p → IsFormed p
@@ -35,7 +35,7 @@ accepted-formed shallow formed bytes p r =
     subst IsFormed (sym r.elaborated.same) (formed bytes r.tree (shallow r.tokens r.tree r.parsed) r.elaborated.sound)
 
 -- a program that is proved is sound
-accepted-program : ProofsAreSound → (p : Program) (tags : List Tag) (d : Setting) → IsSettingOf p d → IsFormed p
+pub accepted-program : ProofsAreSound → (p : Program) (tags : List Tag) (d : Setting) → IsSettingOf p d → IsFormed p
     → Conditions p → All (λ a. Determined a.level) (annotations_in p) → Proves d tags → IsSound p
 unfolding ProofsAreSound
 accepted-program law p tags d own formed conditions determined proves =
@@ -167,6 +167,7 @@ accepted-order files proofs runs told words text status asks s a = go (order_of 
         let z = zero-at (demo-status procedures text status k) in
         by_demo procedures e k (demo-sound files procedures text status z k)
     go (Some (ranking file)) e q x = absurd q
+    go (Some (replay file entry state schedule)) e q x = absurd q
 
 -- what is said with such a status promises it
 pub accepted-reply : AcceptedFilesAreSound → AcceptedProofsAreSound → AcceptedRunsAreSound → (told : Option Files)

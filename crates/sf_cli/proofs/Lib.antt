@@ -14,3 +14,6 @@ pub mod Complete
 pub mod AnswerLaws
 pub mod DemoAnswers
 pub mod Rankings
+pub mod ReplayReplies
+pub mod OneReplay
+pub mod AReplay

@@ -77,7 +77,7 @@ run-slot b g v w s (shared r i) =
     ap (λ (vs : List Value). slice_get vs i) (run-rows v.shared.items w.shared.items s.shared r.0)
 
 -- so a run begins with them as with the others
-run-begins : (p : Program) (f : ProcId) (fresh : Bool) (v w : Vars) (h : Cells) (c : Config) → SameVars v w
+pub run-begins : (p : Program) (f : ProcId) (fresh : Bool) (v w : Vars) (h : Cells) (c : Config) → SameVars v w
     → Begins p f fresh v h c → Begins p f fresh w h c
 run-begins p f fresh v w h c s b = record {
   procedure = b.procedure;

@@ -179,12 +179,12 @@ ran-status p f given steps waits text status (ran g vars heap parts unit fresh o
 -- ---- what is fetched of a state
 
 -- a text that is too long is refused for that
-fetched-long : (m : Format) (text : Text) → STATE_BYTES < length text → text_refusal m text ≡ Some fault.TooLong
+pub fetched-long : (m : Format) (text : Text) → STATE_BYTES < length text → text_refusal m text ≡ Some fault.TooLong
 fetched-long m text more =
     let long : nat_lt STATE_BYTES (length text) ≡ true = grind (arith, nat_tests) in
     ap (λ (b : Bool). if b then Some fault.TooLong else lines_refusal m (entries_of m.fields m.names text)) long
 
-fetched-none : (o : Option StartFault) (f : StartFault) → o ≡ Some f → o ≡ None → ⊥
+pub fetched-none : (o : Option StartFault) (f : StartFault) → o ≡ Some f → o ≡ None → ⊥
 fetched-none o f e n = some-none f (sym e ∙ n)
 
 -- the answer to the first bytes of it is that to it

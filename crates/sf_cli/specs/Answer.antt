@@ -39,7 +39,8 @@ use Rattle.sf_gen.specs.Made.{made_text}
 use Rattle.sf_cli.specs.Ran.{IsFinishedText, StateAnswer}
 use Rattle.sf_cli.specs.Ranked.{RankingAnswer}
 use Rattle.sf_cli.specs.Rechecked.{ProofAnswer}
-use Rattle.sf_words.specs.Words.{Text, Order, demo, order_of, ranking, recheck, run, verify}
+use Rattle.sf_cli.specs.Replayed.{ComesByBytes, ReplayAnswer}
+use Rattle.sf_words.specs.Words.{Text, Order, demo, order_of, ranking, recheck, replay, run, verify}
 use Rattle.sf_cli.specs.StartRefusals.{start_refusal_text}
 use Rattle.sf_cli.specs.Usage.{usage_text}
 
@@ -162,6 +163,8 @@ OrderAnswer told (Some (run file entry state steps waits)) text status =
 OrderAnswer told (Some (demo procedures)) text status = DemoAnswer procedures text status
 OrderAnswer told (Some (ranking file)) text status =
     (bytes : Text) × MayHave told file bytes × RankingFileAnswer bytes text status
+OrderAnswer told (Some (replay file entry state schedule)) text status =
+    (bytes : Text) × MayHave told file bytes × ReplayAnswer told bytes entry state schedule text status
 
 -- the answer over the files of a shelf
 abbrev pub Answers : Option Files → (words : List Text) → Text → (status : ℕ) → Type 0
@@ -177,6 +180,7 @@ Names (Some (verify file workers)) name = name ≡ file
 Names (Some (recheck file proof_name)) name = (name ≡ file) ⊎ (name ≡ proof_name)
 Names (Some (run file entry state steps waits)) name = (name ≡ file) ⊎ (name ≡ state)
 Names (Some (ranking file)) name = name ≡ file
+Names (Some (replay file entry state schedule)) name = (name ≡ file) ⊎ ((name ≡ state) ⊎ (name ≡ schedule))
 Names _ name = ⊥
 
 -- these bytes are those of a program with which nothing is wrong
@@ -197,12 +201,15 @@ abbrev pub MayBeRun : Option Files → (name entry : Text) → Type 0
 MayBeRun told name entry = (bytes : Text) × MayHave told name bytes × AreRun bytes entry
 
 -- the work comes to that file: it is the program's; or a proof's of a program with which nothing is
--- wrong; or a state's, from which a procedure of such a program is run
+-- wrong; or a state's, from which a procedure of such a program is run; or a state's or a schedule's of a replay, where
+-- nothing before it is refused
 abbrev pub Reaches : Option Files → Option Order → Text → Type 0
 Reaches told (Some (verify file workers)) name = name ≡ file
 Reaches told (Some (recheck file proof_name)) name = (name ≡ file) ⊎ ((name ≡ proof_name) × MayBeAdmitted told file)
 Reaches told (Some (run file entry state steps waits)) name = (name ≡ file) ⊎ ((name ≡ state) × MayBeRun told file entry)
 Reaches told (Some (ranking file)) name = name ≡ file
+Reaches told (Some (replay file entry state schedule)) name = (name ≡ file)
+    ⊎ ((bytes : Text) × MayHave told file bytes × ComesByBytes told bytes entry state schedule name)
 Reaches told _ name = ⊥
 
 -- what is said of a file that can't be read

@@ -3,3 +3,4 @@
 pub mod Fetched
 pub mod Laws
 pub mod Printed
+pub mod Stages

@@ -9,6 +9,8 @@ pub mod StartRefusals
 pub mod EndText
 pub mod Ran
 pub mod Ranked
+pub mod FoundText
+pub mod Replayed
 pub mod Answer
 pub mod DemoText
 pub mod Checked

@@ -8,6 +8,7 @@ ghost use Rattle.sf_words.specs.WordsOf.{order_as, words_of};
 use crate::demo::demonstrate;
 use crate::ranking::rank_file;
 use crate::recheck::recheck_file;
+use crate::replay::{ReplayWords, replay_file};
 use crate::reply::{Said, say};
 use crate::run::{RunWords, run_file};
 use crate::usage::USAGE;
@@ -60,6 +61,19 @@ fn follow<R: Threads + Wait + Sync, S: Shelf, G: Gate>(
         }
         Order::Demo { procedures } => demonstrate(rt, alloc, procedures, gate),
         Order::Ranking { file } => rank_file(alloc, file, shelf),
+        Order::Replay {
+            file,
+            entry,
+            state,
+            schedule,
+        } => {
+            let words = ReplayWords {
+                procedure: entry,
+                state,
+                schedule,
+            };
+            replay_file(alloc, file, &words, shelf)
+        }
     }
 }
 

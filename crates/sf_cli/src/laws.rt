@@ -1,7 +1,7 @@
 //! Laws of answers. Each function is a law: calling it gives its fact to the caller's proof, and
 //! does nothing.
 
-ghost use Rattle.sf_cli.specs.Checked.Laws.{AcceptedFilesAreSound, AcceptedProofsAreSound, AcceptedRunsAreSound, EachCommandHasAnAnswer, EachCommandHasOneAnswer, EachDemoHasAnAnswer, EachDemoHasOneAnswer, EachFileHasAnAnswer, EachFileHasOneAnswer, EachFileIsDecided, EachFileIsOneProgram, EachProofHasAnAnswer, EachProofHasOneAnswer, EachRunHasAnAnswer, EachRunHasOneAnswer, FinishedRunsHaveEnded, EachRankingHasAnAnswer, EachRankingHasOneAnswer};
+ghost use Rattle.sf_cli.specs.Checked.Laws.{AcceptedFilesAreReplayedSafely, AcceptedFilesAreSound, AcceptedProofsAreSound, AcceptedRunsAreSound, EachCommandHasAnAnswer, EachCommandHasOneAnswer, EachDemoHasAnAnswer, EachDemoHasOneAnswer, EachFileHasAnAnswer, EachFileHasOneAnswer, EachFileIsDecided, EachFileIsOneProgram, EachProofHasAnAnswer, EachProofHasOneAnswer, EachRunHasAnAnswer, EachRunHasOneAnswer, FinishedRunsHaveEnded, EachRankingHasAnAnswer, EachRankingHasOneAnswer, EachReplayHasAnAnswer, EachReplayHasOneAnswer, ProvedProgramsAreReplayedSafely};
 
 use sf_check::laws::{proves_not_refused, proves_or_refused, refused_once};
 use sf_elab::laws::elaborated_is_formed;
@@ -10,6 +10,7 @@ use sf_order::laws::{each_program_is_ordered, resources_are_listed_once};
 use sf_parse::laws::each_file_is_shallow;
 use sf_precise::laws::{never_taken_is_undetermined, undetermined_annotations_have_place};
 use sf_proof::laws::each_text_reads_once;
+use sf_replay::laws::{events_are_replayed_once, sound_runs_are_clean, starts_are_replayed};
 use sf_rules::laws::{setting_exists, setting_is_unique};
 use sf_run::{
     bases_are_free, beginnings_are_starts, beginnings_are_unique, ends_are_numbered,
@@ -159,6 +160,52 @@ pub fn each_ranking_has_an_answer()
     resources_are_listed_once();
 }
 
+/// A replay of a file's program has at most one answer over the same files.
+pub fn each_replay_has_one_answer()
+    ensures { EachReplayHasOneAnswer }
+{
+    each_file_is_decided();
+    entry_is_unique();
+    start_is_unique();
+    beginnings_are_unique();
+    events_are_replayed_once();
+}
+
+/// A replay of a file's program has an answer, where the files of the state and of the schedule are
+/// there.
+pub fn each_replay_has_an_answer()
+    ensures { EachReplayHasAnAnswer }
+{
+    each_file_has_an_answer();
+    each_file_is_shallow();
+    elaborated_is_formed();
+    entry_exists();
+    start_exists();
+    starts_are_replayed();
+}
+
+/// Of a program of which the conditions on variables hold, and which tags prove, neither an absent
+/// cell nor a race is found, from whichever state and by whichever schedule.
+pub fn proved_programs_are_replayed_safely()
+    ensures { ProvedProgramsAreReplayedSafely }
+{
+    sound_runs_are_clean();
+    beginnings_are_starts();
+    each_file_is_shallow();
+    elaborated_is_formed();
+    proofs_are_sound();
+}
+
+/// Of a file that is accepted neither is found.
+pub fn accepted_files_are_replayed_safely()
+    ensures { AcceptedFilesAreReplayedSafely }
+{
+    sound_runs_are_clean();
+    beginnings_are_starts();
+    each_file_is_decided();
+    accepted_files_are_sound();
+}
+
 /// Words have an answer over files, where the files that they name are there.
 #[tactic(auto, using(crate::proofs::AnswerLaws::each_command_has_an_answer))]
 pub fn each_command_has_an_answer()
@@ -169,6 +216,7 @@ pub fn each_command_has_an_answer()
     each_run_has_an_answer();
     each_demo_has_an_answer();
     each_ranking_has_an_answer();
+    each_replay_has_an_answer();
 }
 
 /// Words have at most one answer over the same files.
@@ -182,6 +230,7 @@ pub fn each_command_has_one_answer()
     each_run_has_one_answer();
     each_demo_has_one_answer();
     each_ranking_has_one_answer();
+    each_replay_has_one_answer();
 }
 
 /// Whatever bytes are answered with status 0 are those of a sound program.

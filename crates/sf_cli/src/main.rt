@@ -11,6 +11,8 @@
 //! - `run`: what it says to `run`, in the order of its work
 //! - `demo`: what it says to `demo`
 //! - `ranking`: what it says to `order`
+//! - `replay`: what it says to `replay`, in the order of its work
+//! - `found`: what is found of a schedule and why nothing is, printed
 //! - `start_refusal`: why there is no start, and the line that says so
 //! - `outcome`: what comes of a run, printed
 //! - `command`: to each order its command
@@ -24,6 +26,7 @@ ghost use Rattle.sf_words.specs.WordsOf.{words_of};
 
 mod command;
 mod demo;
+mod found;
 mod laws;
 mod outcome;
 mod ranking;
@@ -31,6 +34,7 @@ mod reading;
 mod recheck;
 mod refusal;
 mod rejection;
+mod replay;
 mod reply;
 mod run;
 mod start_refusal;

@@ -80,7 +80,7 @@ fn answer_to_start<R: Threads + Sync, G: Gate>(
 
 /// That there is no start, and why. An `Err` means that memory ran out, which is also the answer
 /// where that was the cause.
-fn say_no_start(alloc: Global, fault: &StartFault) -> Result<Said, AllocError>
+pub(crate) fn say_no_start(alloc: Global, fault: &StartFault) -> Result<Said, AllocError>
     ensures said { IfOk result (λ said. (said.text.items ≡ start_refusal_text fault.now)
         × (said.status ≡ 5)) }
     ensures cause { IfOk result (λ said. fault.now ≢ OutOfMemory) }

@@ -50,8 +50,9 @@ fn tell<K: Sink>(sink: &mut K, said: &Said) -> u8
 /// are no command, 3 where the file is refused, 4 where the text of a proof is, 5 where a run has
 /// no such start, 6 where it has spent its units or tries, 7 where the shelf failed, 8 where the
 /// sink did, and 9 where memory ran out. Of `order` it is 0 where the resources have ranks, and 12
-/// where there is a cycle. Where no count of faults increases, the answer is the one that is due,
-/// whole, or memory ran out.
+/// where there is a cycle; of `replay` 0 where neither an absent cell nor a race is found of the
+/// schedule, 10 where one is, and 11 where it is refused. Where no count of faults increases, the
+/// answer is the one that is due, whole, or memory ran out.
 ///
 /// Whatever the number of workers and the gate, the answer is the same. Workers beside the first
 /// one are threads; a run so far starts none: one from whose entry a parallel call can be reached
@@ -108,9 +109,9 @@ pub fn smallfoot<'a, R: Threads + Wait + Sync, S: Shelf, K: Sink, G: Gate>(
         × (K.written sink.new ≡ with_bytes (K.written sink.old) text)
         × Ended (S.files shelf.old) (order_of (words_of words.now)) text }
     // No file changes, and no count falls. Where an answer is given none has increased: no proof's
-    // where the program's file is refused, and no state's where a procedure fails, the entry is
-    // refused, or a parallel call can be reached from it. A count increases only where the work
-    // comes to that file.
+    // where the program's file is refused, no state's where a procedure fails, the entry is
+    // refused, or a parallel call can be reached from it, and no schedule's where the state is
+    // refused too. A count increases only where the work comes to that file.
     ensures counts { (any : Text) → S.faults shelf.old any ≤ S.faults shelf.new any }
     ensures quiet { IsAnswering result → (any : Text)
         → S.faults shelf.new any ≡ S.faults shelf.old any }

@@ -3,5 +3,6 @@ pub const USAGE: &str = "usage: smallfoot verify FILE [--workers K]
        smallfoot recheck FILE PROOF
        smallfoot run FILE ENTRY STATE [--steps N] [--waits W]
        smallfoot demo N
+       smallfoot replay FILE ENTRY STATE SCHEDULE
        smallfoot order FILE
 ";

@@ -12,7 +12,7 @@ fn words_are_their_orders(rt: HostRuntime) {
         file: "a",
         workers: 4,
     };
-    let cases: [(&[&str], Order); 16] = [
+    let cases: [(&[&str], Order); 17] = [
         (&["verify", "a"], verify),
         (&["verify", "--", "a"], verify),
         (&["verify", "a", "--"], verify),
@@ -79,6 +79,15 @@ fn words_are_their_orders(rt: HostRuntime) {
         (&["order", "a"], Order::Ranking { file: "a" }),
         (&["order", "--", "-a"], Order::Ranking { file: "-a" }),
         (&["order", "order"], Order::Ranking { file: "order" }),
+        (
+            &["replay", "a", "--", "b", "-c", "d"],
+            Order::Replay {
+                file: "a",
+                entry: "b",
+                state: "-c",
+                schedule: "d",
+            },
+        ),
     ];
     for (words, order) in cases {
         assert!(rt; read(rt.alloc(), words) == Ok(order));
@@ -87,7 +96,7 @@ fn words_are_their_orders(rt: HostRuntime) {
 
 #[test]
 fn other_words_are_refused(rt: HostRuntime) {
-    let cases: [&[&str]; 37] = [
+    let cases: [&[&str]; 41] = [
         &[],
         &["--help"],
         &["help"],
@@ -123,6 +132,10 @@ fn other_words_are_refused(rt: HostRuntime) {
         &["order", "a", "b"],
         &["order", "a", "--workers=1"],
         &["orders", "a"],
+        &["replay", "a", "b", "c"],
+        &["replay", "a", "b", "c", ""],
+        &["replay", "a", "b", "c", "d", "e"],
+        &["replay", "a", "b", "c", "d", "--steps=1"],
         &["demo", "0"],
         &["demo", "1001"],
     ];

@@ -88,7 +88,7 @@ conflicts-race c path other t n k = elim k.conflict [
 ]
 
 -- a race is a conflict of two tasks, whichever comes first
-race-forth : (c : Config) → (r : Races c) → Conflicts c r.path r.other_path r.thing
+pub race-forth : (c : Config) → (r : Races c) → Conflicts c r.path r.other_path r.thing
 race-forth c r = record {
   task = r.task;
   enabled = r.enabled;
@@ -97,7 +97,7 @@ race-forth c r = record {
   conflict = inl (r.writes, r.meets);
 }
 
-race-back : (c : Config) → (r : Races c) → Conflicts c r.other_path r.path r.thing
+pub race-back : (c : Config) → (r : Races c) → Conflicts c r.other_path r.path r.thing
 race-back c r = record {
   task = r.other;
   enabled = r.other_enabled;

@@ -94,6 +94,11 @@ going-bad p start c all left n (Race count path other thing) g b =
     subst (λ (z : ℕ). LeadsTo p start (events_of all) z (λ d. IsFirstRace d path other (thing_of thing))) (sym b.0)
     (going-to p start c all left n (λ d. IsFirstRace d path other (thing_of thing)) g b.1)
 
+-- a list of no length has nothing
+pub none-left : (left : List Scheduled) → length left ≡ 0 → left ≡ []
+none-left [] e = refl
+none-left (x ∷ left) e = absurd (omega (arith, e))
+
 -- nothing is bad in the end
 pub going-clean : (p : Program) (start c : Config) (all left : List Scheduled) (n : ℕ) → left ≡ []
     → Going p start all left n c → (Bad c → ⊥) → Finds p start (events_of all) Clean

@@ -1,6 +1,7 @@
 pub mod Answered
 pub mod Firsts
 pub mod Going
+pub mod Kept
 pub mod Listings
 pub mod Meetings
 pub mod Once

@@ -232,7 +232,7 @@ listed-enabled c p l t k i = elim (enabled-or_not c p) [
       | inr h ↦ subst (λ (z : List CodeThing). IsListed z t) e.1 h
     ]
 
-meets-to : (c : Config) (p q : Path) (l m : Seen) (t : Thing) → IsLook c p l → IsLook c q m → Meets l m t
+pub meets-to : (c : Config) (p q : Path) (l m : Seen) (t : Thing) → IsLook c p l → IsLook c q m → Meets l m t
     → Conflicts c p q t
 meets-to c p q l m t a b h = elim h [
   | inl k ↦ elim k [
@@ -278,7 +278,7 @@ meets-to c p q l m t a b h = elim h [
           conflict = inr ((b.accesses.written y.0 y.1 t).0 j, inl ((a.accesses.read x.0 x.1 t).0 i));
         }
 
-meets-from : (c : Config) (p q : Path) (l m : Seen) (t : Thing) → IsLook c p l → IsLook c q m → Conflicts c p q t
+pub meets-from : (c : Config) (p q : Path) (l m : Seen) (t : Thing) → IsLook c p l → IsLook c q m → Conflicts c p q t
     → Meets l m t
 meets-from c p q l m t a b k =
     let w = a.accesses.written k.task k.enabled t in

@@ -1,19 +1,13 @@
 //! The first task at an absent cell, and the first race.
 
-ghost use Rattle.std.specs.Prelude.{◌≡◌, IfOk, MatchOption, map};
-ghost use Rattle.sf_core.specs.Machine.Bad.{Bad};
-ghost use Rattle.sf_core.specs.Program.ProgramView.{program_of};
-ghost use Rattle.sf_machine.specs.Configs.{config_of};
-ghost use Rattle.sf_machine.specs.Reached.{IsReached};
-ghost use Rattle.sf_replay.specs.Checked.Going.{IsBadAt};
+ghost use Rattle.std.specs.Prelude.{◌≡◌, ◌⊎◌, None, map};
+ghost use Rattle.sf_replay.specs.Checked.Keeping.{AreStillFine};
 ghost use Rattle.sf_replay.specs.Checked.Looks.{absent_in, found_in, partner_in, race_in, seen_of};
 
 use crate::found::Found;
-use crate::look::{Look, looks, meeting};
+use crate::keeping::are_still_fine;
+use crate::look::{Look, meeting};
 use sf_base::{TaskPath, Thing, Value};
-use sf_core::Program;
-use sf_machine::Config;
-use std::alloc::{AllocError, Global};
 
 /// The first of these that is at an absent cell, and the value at which it looks for one.
 fn first_absent(looks: &[Look]) -> Option<(TaskPath, Value)>
@@ -58,7 +52,7 @@ fn first_race(looks: &[Look]) -> Option<(TaskPath, TaskPath, Thing)>
 }
 
 /// What is found in these after so many events.
-fn found_in(number: u64, looks: &[Look]) -> Option<Found>
+pub(crate) fn found_in(number: u64, looks: &[Look]) -> Option<Found>
     ensures { result ≡ found_in number (map seen_of looks.now) }
 {
     if let Some((path, value)) = first_absent(looks) {
@@ -68,19 +62,15 @@ fn found_in(number: u64, looks: &[Look]) -> Option<Found>
     Some(Found::Race(number, path, other, thing))
 }
 
-/// What is found of a configuration after so many events: the first task by path whose next step is
-/// at an absent cell, or else the first pair by path that races, and the first thing on which it
-/// does. `None` exactly where the configuration isn't bad.
-pub(crate) fn first_bad(
-    alloc: Global,
-    p: &Program,
-    c: &Config<'_>,
-    number: u64,
-) -> Result<Option<Found>, AllocError>
-    requires { IsReached (program_of p.now) (config_of c.now) }
-    ensures { IfOk result (λ found. MatchOption found (Bad (config_of c.now) → ⊥)
-        (IsBadAt number (config_of c.now))) }
+/// What is found in what is known of the next steps after so many events, where nothing was bad in
+/// what was known before the last of them.
+pub(crate) fn found_after(number: u64, old: &[Look], new: &[Look]) -> Option<Found>
+    ensures { (result ≡ found_in number (map seen_of new.now)) ⊎ ((result ≡ None)
+        × AreStillFine (map seen_of old.now) (map seen_of new.now) (map seen_of new.now)) }
 {
-    let looks = looks(alloc, p, c)?;
-    Ok(found_in(number, &looks))
+    if are_still_fine(old, new) {
+        None
+    } else {
+        found_in(number, new)
+    }
 }

@@ -9,6 +9,7 @@
 //! - `reading`: the schedule that a text gives.
 //! - `things`: the order of things, and the first one that two steps meet on.
 //! - `look`: what is known of the next step of each task.
+//! - `keeping`: whether nothing is bad after an event, by what was known before it.
 //! - `found`: what is found, and why nothing is.
 //! - `badness`: the first task at an absent cell, and the first race.
 //! - `replaying`: what comes of a schedule.
@@ -21,6 +22,7 @@
 
 mod badness;
 mod found;
+mod keeping;
 pub mod laws;
 pub mod limits;
 mod look;

@@ -32,7 +32,7 @@ fn is_before(x: Thing, y: Thing) -> bool
 }
 
 /// Whether the two are one thing.
-fn is_same(x: Thing, y: Thing) -> bool
+pub(crate) fn is_same(x: Thing, y: Thing) -> bool
     ensures { result ≡ same_thing x y }
 {
     x == y

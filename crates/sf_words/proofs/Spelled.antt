@@ -10,7 +10,7 @@ use Rattle.std.proofs.lemmas.List.{length-append}
 use Rattle.std.proofs.lemmas.List.Folds.{list_all-append}
 use Rattle.sf_base.specs.declared.limits.TheConstants.{DEMO, STEPS, WAITS, WORKERS}
 use Rattle.sf_words.specs.Checked.Laws.{EachOrderIsSpelled}
-use Rattle.sf_words.specs.Words.{Text, dashes, demo, is_blank, number_of, order_of, ranking, recheck, run, run_of, verify}
+use Rattle.sf_words.specs.Words.{Text, dashes, demo, is_blank, number_of, order_of, ranking, recheck, replay, run, run_of, verify}
 
 -- ---- a numeral for each number
 
@@ -82,6 +82,12 @@ spelled-ranking : (file : Text) → is_blank file ≡ false
     → order_of (codes "order" ∷ dashes ∷ file ∷ []) ≡ Some (ranking file)
 spelled-ranking file e = ap (λ (a : Bool). cond (a || false) None (Some (ranking file))) e
 
+spelled-replay : (file entry state schedule : Text) → is_blank file ≡ false → is_blank entry ≡ false → is_blank state ≡ false → is_blank schedule ≡ false
+    → order_of (codes "replay" ∷ dashes ∷ file ∷ entry ∷ state ∷ schedule ∷ []) ≡ Some (replay file entry state schedule)
+spelled-replay file entry state schedule e f g h =
+    ap₂ (λ (a b : Bool). cond (a || (b || (is_blank state || (is_blank schedule || false)))) None (Some (replay file entry state schedule))) e f
+    ∙ ap₂ (λ (a b : Bool). cond (a || (b || false)) None (Some (replay file entry state schedule))) g h
+
 pub each_order_is_spelled : EachOrderIsSpelled
 each_order_is_spelled (verify file k) m =
     let t = numeral 15 k (omega (arith, m.1.1)) in
@@ -97,3 +103,5 @@ each_order_is_spelled (demo n) m =
     let t = numeral 15 n (omega (arith, m.1.1)) in
     (codes "demo" ∷ dashes ∷ t.text ∷ [], spelled-demo n t m.1.0 m.1.1)
 each_order_is_spelled (ranking file) m = (codes "order" ∷ dashes ∷ file ∷ [], spelled-ranking file m.0)
+each_order_is_spelled (replay file entry state schedule) m =
+    (codes "replay" ∷ dashes ∷ file ∷ entry ∷ state ∷ schedule ∷ [], spelled-replay file entry state schedule m.0.0 m.0.1 m.0.2 m.0.3)

@@ -20,6 +20,7 @@ pub data Order : Type 0 where
   run : (file entry state : Text) (steps waits : ℕ) → Order
   demo : (procedures : ℕ) → Order
   ranking : (file : Text) → Order
+  replay : (file entry state schedule : Text) → Order
 
 -- the numbers of an order are from 1 to their limits
 abbrev pub HasNumbersInRange : Order → Type 0
@@ -29,6 +30,7 @@ HasNumbersInRange (run file entry state steps waits) =
     (1 ≤ steps) × (steps ≤ STEPS) × (1 ≤ waits) × (waits ≤ WAITS)
 HasNumbersInRange (demo procedures) = (1 ≤ procedures) × (procedures ≤ DEMO)
 HasNumbersInRange (ranking file) = Unit {0}
+HasNumbersInRange (replay file entry state schedule) = Unit {0}
 
 -- ---- single words
 
@@ -179,6 +181,11 @@ abbrev pub ranking_of : (operands : List Text) → Option Order
 ranking_of (file ∷ []) = Some (ranking file)
 ranking_of _ = None
 
+-- `replay FILE ENTRY STATE SCHEDULE`
+abbrev pub replay_of : (operands : List Text) → Option Order
+replay_of (file ∷ entry ∷ state ∷ schedule ∷ []) = Some (replay file entry state schedule)
+replay_of _ = None
+
 -- the options of `verify`, of `run`, and of the others
 abbrev pub verify_options : List Text
 verify_options = codes "workers" ∷ []
@@ -216,6 +223,9 @@ demo_given g = demo_of g.operands
 abbrev pub ranking_given : Given → Option Order
 ranking_given g = ranking_of g.operands
 
+abbrev pub replay_given : Given → Option Order
+replay_given g = replay_of g.operands
+
 -- the order of a command's word and the words behind it
 abbrev pub order_of_command : Text → List Text → Option Order
 order_of_command command words =
@@ -228,7 +238,9 @@ order_of_command command words =
     else (if bytes_eq (codes "demo") command
     then option_and_then demo_given (given no_options None words)
     else (if bytes_eq (codes "order") command
-    then option_and_then ranking_given (given no_options None words) else None))))
+    then option_and_then ranking_given (given no_options None words)
+    else (if bytes_eq (codes "replay") command
+    then option_and_then replay_given (given no_options None words) else None)))))
 
 -- the order that the words are, if they are one: the first is the command's, and no word is blank
 abbrev pub order_of : List Text → Option Order

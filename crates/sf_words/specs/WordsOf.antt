@@ -3,8 +3,8 @@
 use Rattle.std.specs.Prelude.{Option, Some, None, List, map}
 use Rattle.std.specs.Borrow.{Bor}
 use Rattle.sf_words.specs.declared.order.Order.{Order as CodeOrder}
-use Rattle.sf_words.specs.declared.order.Order.TheVariants.{Verify, Recheck, Run, Demo, Ranking}
-use Rattle.sf_words.specs.Words.{Text, Order, verify, recheck, run, demo, ranking}
+use Rattle.sf_words.specs.declared.order.Order.TheVariants.{Verify, Recheck, Run, Demo, Ranking, Replay}
+use Rattle.sf_words.specs.Words.{Text, Order, verify, recheck, run, demo, ranking, replay}
 
 -- the words
 abbrev pub words_of : List (Bor Text) → List Text
@@ -17,6 +17,7 @@ order_as (Recheck file proof) = recheck file.now proof.now
 order_as (Run file entry state steps waits) = run file.now entry.now state.now steps waits
 order_as (Demo procedures) = demo procedures
 order_as (Ranking file) = ranking file.now
+order_as (Replay file entry state schedule) = replay file.now entry.now state.now schedule.now
 
 -- an order of the code, if there is one
 abbrev pub order_in : Option CodeOrder → Option Order

@@ -64,10 +64,12 @@ pub(crate) fn program<'a>(alloc: Global) -> Result<Command<'a>, AllocError>
     let run = run(alloc)?;
     let demo = bare(alloc, "demo")?;
     let order = bare(alloc, "order")?;
+    let replay = bare(alloc, "replay")?;
     let one = program.subcommand(verify)?;
     let two = one.subcommand(recheck)?;
     let three = two.subcommand(run)?;
     let four = three.subcommand(demo)?;
-    let all = four.subcommand(order)?;
+    let five = four.subcommand(order)?;
+    let all = five.subcommand(replay)?;
     Ok(all)
 }

@@ -41,6 +41,17 @@ pub enum Order<'a> {
         /// The file's name.
         file: &'a str,
     },
+    /// Replay a schedule of events of a file's procedure from a state.
+    Replay {
+        /// The file's name.
+        file: &'a str,
+        /// The procedure that is run.
+        entry: &'a str,
+        /// The name of the state's file.
+        state: &'a str,
+        /// The name of the schedule's file.
+        schedule: &'a str,
+    },
 }
 
 /// Why words were not read.

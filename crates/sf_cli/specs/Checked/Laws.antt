@@ -1,10 +1,14 @@
 -- Laws of answers, stated.
 -- A definition by cases owes its reader that one case holds and no two do; an answer of status 0
 -- promises that the program is sound.
-use Rattle.std.specs.Prelude.{◌≡◌, ℕ, List, Option, Some}
+use Rattle.std.specs.Prelude.{◌≡◌, ◌≢◌, ℕ, List, Option, Some}
 use Rattle.sf_core.specs.Program.Syntax.{Program}
 use Rattle.sf_io.specs.Shelf.{Files}
+use Rattle.sf_rules.specs.Proving.{Proves}
+use Rattle.sf_rules.specs.Setting.{IsSettingOf, Setting}
+use Rattle.sf_sym.specs.declared.tag.Tag.{Tag}
 use Rattle.sf_cli.specs.Answer.{AcceptedBytes, Answer, DemoAnswer, EndedRun, FileAnswer, Names, OrderAnswer, RunAnswer, RankingFileAnswer}
+use Rattle.sf_cli.specs.Replayed.{EnteredAnswer, ReplayAnswer}
 use Rattle.sf_cli.specs.SoundFile.{IsAccepting}
 use Rattle.sf_cli.specs.FileFault.{Admits, FileFault}
 use Rattle.sf_cli.specs.declared.refusal.Refusal.{Refusal}
@@ -79,6 +83,34 @@ EachRankingHasOneAnswer =
 -- it has an answer
 abbrev pub EachRankingHasAnAnswer : Type 0
 EachRankingHasAnAnswer = (bytes : Text) → (text : Text) × (status : ℕ) × RankingFileAnswer bytes text status
+
+-- a replay of a file's program has at most one answer over the same files
+abbrev pub EachReplayHasOneAnswer : Type 0
+EachReplayHasOneAnswer =
+    (files : Files) (bytes entry state_name schedule_name text other : Text) (status code : ℕ)
+    → ReplayAnswer (Some files) bytes entry state_name schedule_name text status
+    → ReplayAnswer (Some files) bytes entry state_name schedule_name other code → (text ≡ other) × (status ≡ code)
+
+-- it has an answer, where the files of the state and of the schedule are there
+abbrev pub EachReplayHasAnAnswer : Type 0
+EachReplayHasAnAnswer =
+    (files : Files) (bytes entry state_name schedule_name given events : Text) → files state_name ≡ Some given
+    → files schedule_name ≡ Some events
+    → (text : Text) × (status : ℕ) × ReplayAnswer (Some files) bytes entry state_name schedule_name text status
+
+-- of a file's program with which nothing is wrong, so that the conditions on variables hold of it, and that some tags
+-- prove, neither an absent cell nor a race is found, from whichever state and by whichever schedule
+abbrev pub ProvedProgramsAreReplayedSafely : Type 0
+ProvedProgramsAreReplayedSafely =
+    (bytes : Text) (p : Program) → Admits bytes p → (d : Setting) → IsSettingOf p d → (tags : List Tag) → Proves d tags
+    → (told : Option Files) (entry state_name schedule_name text : Text) (status : ℕ)
+    → EnteredAnswer told p entry state_name schedule_name text status → status ≢ 10
+
+-- nor of a file that is accepted
+abbrev pub AcceptedFilesAreReplayedSafely : Type 0
+AcceptedFilesAreReplayedSafely =
+    (told : Option Files) (bytes shown entry state_name schedule_name text : Text) (status : ℕ)
+    → FileAnswer bytes shown 0 → ReplayAnswer told bytes entry state_name schedule_name text status → status ≢ 10
 
 -- words have at most one answer over the same files
 abbrev pub EachCommandHasOneAnswer : Type 0

@@ -6,15 +6,18 @@ use crate::top::smallfoot;
 use sf_io::{MemSink, OpenGate};
 use std::test::Fail;
 
-/// The most bytes that are asked for of a program's file, of a proof's and of a state's.
+/// The most bytes that are asked for of a program's file, of a proof's, of a state's and of a
+/// schedule's.
 const OF_FILE: usize = 1_048_577;
 
 const OF_PROOF: usize = 33_554_433;
 
 const OF_STATE: usize = 67_108_865;
 
+const OF_SCHEDULE: usize = 67_108_865;
+
 /// Words, and what they ask for.
-const REQUESTS: [(&[&str], &[(&str, usize)]); 19] = [
+const REQUESTS: [(&[&str], &[(&str, usize)]); 26] = [
     (&[], &[]),
     (&["verify"], &[]),
     (&["demo", "2"], &[]),
@@ -49,6 +52,38 @@ const REQUESTS: [(&[&str], &[(&str, usize)]); 19] = [
     (&["run", "free.sf", "f", "given"], &[("free.sf", OF_FILE)]),
     (&["order", "mm.sf"], &[("mm.sf", OF_FILE)]),
     (&["order", "none.sf"], &[("none.sf", OF_FILE)]),
+    (
+        &["replay", "two.sf", "two", "given", "none"],
+        &[
+            ("two.sf", OF_FILE),
+            ("given", OF_STATE),
+            ("none", OF_SCHEDULE),
+        ],
+    ),
+    (
+        &["replay", "two.sf", "two", "none", "given"],
+        &[("two.sf", OF_FILE), ("none", OF_STATE)],
+    ),
+    (
+        &["replay", "set.sf", "set", "given", "given"],
+        &[("set.sf", OF_FILE), ("given", OF_STATE)],
+    ),
+    (
+        &["replay", "leak.sf", "disp_tree", "given", "given"],
+        &[("leak.sf", OF_FILE), ("given", OF_STATE)],
+    ),
+    (
+        &["replay", "two.sf", "none", "given", "given"],
+        &[("two.sf", OF_FILE)],
+    ),
+    (
+        &["replay", "free.sf", "f", "given", "given"],
+        &[("free.sf", OF_FILE)],
+    ),
+    (
+        &["replay", "bad.sf", "f", "given", "given"],
+        &[("bad.sf", OF_FILE)],
+    ),
 ];
 
 #[test]

@@ -1,7 +1,7 @@
 //! Words of the command line.
 
 /// Words that are no command.
-pub const NO_COMMANDS: [&[&str]; 23] = [
+pub const NO_COMMANDS: [&[&str]; 25] = [
     &[],
     &["verify"],
     &["verify", "a", "b"],
@@ -25,6 +25,8 @@ pub const NO_COMMANDS: [&[&str]; 23] = [
     &["order", "a", "b"],
     &["order", "set.sf", "--workers", "1"],
     &["order", "-"],
+    &["replay", "a", "b", "c"],
+    &["replay", "a", "b", "c", "d", "e"],
 ];
 
 /// Words that have the file set.sf proved.

@@ -1,46 +1,29 @@
-use Rattle.std.proofs.Common.{◌∙◌, MatchOption, Option, inr, length, subst, sym, true≢false}
-use Rattle.std.specs.List.{All}
-use Rattle.std.proofs.lemmas.List.Elements.{All-tail}
+use Rattle.std.proofs.Common.{◌≡◌, ◌∙◌, [], List, MatchOption, Option, ap, map, refl, subst, sym}
 use Rattle.sf_core.specs.Machine.Bad.{Bad}
 use Rattle.sf_core.specs.Program.ProgramView.{program_of}
 use Rattle.sf_machine.specs.Configs.{config_of}
+use Rattle.sf_replay.proofs.Firsts.{bad-first}
+use Rattle.sf_replay.proofs.Going.{going-bad}
 use Rattle.sf_replay.specs.Checked.Going.{IsBadAt}
-use Rattle.sf_replay.specs.Checked.Taking.{IsWide}
+use Rattle.sf_replay.specs.Checked.Looks.{found_in, seen_of}
 use Rattle.sf_replay.specs.declared.found.Found.{Found}
-use Rattle.sf_replay.proofs.Going.{going-bad, going-next, going-stop}
+use Rattle.sf_replay.specs.declared.look.Look.{Look}
 use Rattle.sf_replay.proofs.replaying.replay_from.Goals as goal
 
-pub returns-then-not-is_moved : goal.returns-then-not-is_moved
-returns-then-not-is_moved c =
-    let now = config_of c.events.c in
-    inr (going-stop (program_of c.args.p.now) (config_of c.args.c.now) now
-    c.args.events.now c.events.left.now c.in-Some.rest.now c.in-Some.next.now c.events.number
-    c.in_ok-stepped.stepped c.in-Some.ensures.cases.0 c.events.invariant.3
-    (subst (λ (o : Option Found). MatchOption o (Bad now → ⊥) (IsBadAt c.events.number now)) c.in_default-2.is
-    c.in_ok-found.ensures)
-    (λ moved. true≢false (sym (c.is_moved.ensures.1 moved) ∙ c.if-not-is_moved.true))
-    c.in_ok-stepped.ensures.answers)
+pub replay_on-requires-clause-fine : goal.replay_on-requires-clause-fine
+replay_on-requires-clause-fine c =
+    let now = config_of c.args.c.now in
+    let is : c.found_in.result ≡ found_in 0 (map seen_of c.in_ok-known.known.items) =
+    c.found_in.ensures ∙ ap (λ (z : List Look). found_in 0 (map seen_of z)) c.deref.ensures.value in
+    subst (λ (o : Option Found). MatchOption o (Bad now → ⊥) (IsBadAt 0 now)) (sym is ∙ c.in-None.is)
+    (bad-first now 0 (map seen_of c.in_ok-known.known.items) c.in_ok-known.ensures)
 
-pub events-preserved : goal.events-preserved
-events-preserved c =
-    let now = config_of c.events.c in
-    let count = length c.args.p.now.fields.items in (
-      c.in_ok-stepped.ensures.reached,
-      c.in_ok-stepped.ensures.wide,
-      All-tail (IsWide count) c.in-Some.next.now c.in-Some.rest.now
-          (subst (All (IsWide count)) c.in-Some.ensures.cases.0 c.events.invariant.2),
-      going-next (program_of c.args.p.now) (config_of c.args.c.now) now (config_of c.step.new.c)
-          c.args.events.now c.events.left.now c.in-Some.rest.now c.in-Some.next.now c.events.number
-          c.in-Some.ensures.cases.0 c.events.invariant.3
-          (subst (λ (o : Option Found). MatchOption o (Bad now → ⊥) (IsBadAt c.events.number now))
-          c.in_default-2.is c.in_ok-found.ensures)
-          (c.in_ok-stepped.ensures.moved (c.is_moved.ensures.0 c.if-not-is_moved.false)),
-    )
-
-pub returns-in-Some-3 : goal.returns-in-Some-3
-returns-in-Some-3 c =
-    let now = config_of c.events.c in
-    going-bad (program_of c.args.p.now) (config_of c.args.c.now) now c.args.events.now c.events.left.now
-    c.events.number c.in-Some-3.found c.events.invariant.3
-    (subst (λ (o : Option Found). MatchOption o (Bad now → ⊥) (IsBadAt c.events.number now)) c.in-Some-3.is
-    c.in_ok-found-2.ensures)
+pub returns-in-Some : goal.returns-in-Some
+returns-in-Some c =
+    let now = config_of c.args.c.now in
+    let is : c.found_in.result ≡ found_in 0 (map seen_of c.in_ok-known.known.items) =
+    c.found_in.ensures ∙ ap (λ (z : List Look). found_in 0 (map seen_of z)) c.deref.ensures.value in
+    going-bad (program_of c.args.p.now) now now c.args.events.now c.args.events.now 0 c.in-Some.found
+    (record { done = []; split = refl; count = refl; leads = refl })
+    (subst (λ (o : Option Found). MatchOption o (Bad now → ⊥) (IsBadAt 0 now)) (sym is ∙ c.in-Some.is)
+    (bad-first now 0 (map seen_of c.in_ok-known.known.items) c.in_ok-known.ensures))

@@ -4,7 +4,7 @@ use Rattle.clap.specs.Words.{found_of, rows_of}
 use Rattle.sf_words.proofs.Rows.{texts-rows}
 use Rattle.sf_words.specs.Checked.Forms.{operands_id, values_at}
 use Rattle.sf_words.specs.Checked.Found.{order_found, texts_under}
-use Rattle.sf_words.specs.Words.{Text, demo_of, ranking_of, recheck_of, run_of, steps_of, verify_of, waits_of, workers_of}
+use Rattle.sf_words.specs.Words.{Text, demo_of, ranking_of, recheck_of, replay_of, run_of, steps_of, verify_of, waits_of, workers_of}
 use Rattle.sf_words.proofs.given.order.Goals as goal
 
 pub returns-in-verify : goal.returns-in-verify
@@ -41,3 +41,9 @@ returns-in-order c =
     let found = found_of c.args.matches.now in
     let operands = texts-rows operands_id (rows_of found) c.get_strs-operands.result _ c.get_strs-operands.ensures (raw_values-rows found operands_id) in
     c.ranking.ensures ∙ ap ranking_of operands ∙ sym (ap (λ (n : Text). order_found n (rows_of found)) c.in-order.is)
+
+pub returns-in-replay : goal.returns-in-replay
+returns-in-replay c =
+    let found = found_of c.args.matches.now in
+    let operands = texts-rows operands_id (rows_of found) c.get_strs-operands.result _ c.get_strs-operands.ensures (raw_values-rows found operands_id) in
+    c.replay.ensures ∙ ap replay_of operands ∙ sym (ap (λ (n : Text). order_found n (rows_of found)) c.in-replay.is)
