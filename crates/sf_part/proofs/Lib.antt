@@ -15,5 +15,6 @@ pub mod Numbers
 pub mod Firsts
 pub mod Times
 pub mod Seen
+pub mod Giving
 pub mod Worked
 pub mod Law

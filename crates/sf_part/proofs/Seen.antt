@@ -1,29 +1,32 @@
 -- What a part tells of the whole that it belongs to.
 -- Names: each lemma has the name of the law's function; `test-LAW` speaks of what a test sees.
+use Rattle.std.proofs.lemmas.List.Elements.{Contains-append_left}
+use Rattle.sf_part.proofs.Supplies.{contains-count, count-append, count-contains}
+use Rattle.sf_part.proofs.Leads.{order-three}
 use Rattle.std.specs.Prelude.{◌≡◌, cond, List, [], ◌∷◌, ◌++◌, length, map, Option, Some, None}
 use Rattle.std.specs.Option.{option_map}
 use Rattle.std.proofs.Common.{sym, ap, ◌∙◌, refl, subst, inl, inr, arith}
 use Rattle.std.proofs.lemmas.Bool.{cases_lt, le-ltb}
 use Rattle.std.proofs.lemmas.Option.{none-some, same_Some}
-use Rattle.sf_base.proofs.MapSplits.{splits-has_left, splits-has_right, splits-lacks_right}
+use Rattle.sf_base.proofs.MapSplits.{splits-has_left, splits-has_right, splits-lacks_right, union, splits-assoc_left, splits-lacks_both}
 use Rattle.sf_base.specs.declared.ids.Var.{Var}
-use Rattle.sf_base.specs.HeapStore.{Slot, Store}
+use Rattle.sf_base.specs.HeapStore.{Slot, Store, own}
 use Rattle.sf_core.specs.declared.assertion.Test.{Test}
 use Rattle.sf_core.specs.declared.assertion.Test.TheVariants.{True, Equal, Differ}
 use Rattle.sf_core.specs.declared.command.Expr.{Expr}
 use Rattle.sf_core.specs.Assertions.Sat.{IsTrueOf}
 use Rattle.sf_core.specs.Machine.Config.{Frame, Task, runs, Path, evaluate, task_at}
 use Rattle.sf_core.specs.Machine.Enabled.{variable, ReadsTest}
-use Rattle.sf_core.specs.Machine.Whole.{Stand, stand_of, stands, own_stand}
+use Rattle.sf_core.specs.Machine.Whole.{Stand, stand_of, stands, own_stand, numbers, supplies, Whole}
 use Rattle.sf_core.proofs.Machine.InOrder.Regions.{regions-past}
 use Rattle.sf_core.proofs.Machine.InOrder.Starts.{reach-keeps, start-in_order}
 use Rattle.sf_core.proofs.Machine.Locality.{evaluate-same}
 use Rattle.sf_core.proofs.Machine.Tasks.{task_at-running}
-use Rattle.sf_part.specs.Checked.LawsOfWhole.{ConditionsAreSeenAlike, HeldAreOfTheProgram, PartsHold, RunningEntriesAreAlone, RunningPartsRun, WaitingPartsWait}
-use Rattle.sf_part.proofs.Order.{content_store, part_store, whole-focus, whole-focus_content}
+use Rattle.sf_part.specs.Checked.LawsOfWhole.{ConditionsAreSeenAlike, HeldAreOfTheProgram, PartsHold, RunningEntriesAreAlone, RunningPartsRun, WaitingPartsWait, ContentsAreApart, ChildrenAreApart}
+use Rattle.sf_part.proofs.Order.{content_store, part_store, whole-focus, whole-focus_content, content_heap, part_heap, whole-unfocus}
 use Rattle.sf_part.proofs.Tasks.{stand-waits, tasks-runs}
 use Rattle.sf_part.proofs.Trees.{entry-here}
-use Rattle.sf_part.proofs.Unions.{union-join, union-second}
+use Rattle.sf_part.proofs.Unions.{union-join, union-second, union-take}
 
 pub running_parts_run : RunningPartsRun
 unfolding RunningPartsRun
@@ -113,3 +116,76 @@ held_are_of_the_program p f store heap start c events formed s reach r path h =
           let none = regions-past p c.tasks o.formed r (le-ltb r.0 (length p.resources) t) path in
           absurd (omega arith)
     ]
+
+pub contents_are_apart : ContentsAreApart
+unfolding ContentsAreApart
+contents_are_apart before after a earlier later k c w =
+    let others = before ++ after in
+    let contents = earlier ++ later in
+    let v = whole-focus_content (a ∷ others) earlier later k c
+    (whole-focus before after a (earlier ++ k ∷ later) c w) in
+    let (x, s, (y, t, u)) = union-second a.heap (map part_heap others) k.heap
+    (map content_heap contents) c.common.heap v.heap in
+    let (d, f, (g, h, i)) = union-second a.store (map part_store others) k.store
+    (map content_store contents) c.common.store v.store in (
+      (
+        record a { heap = union a.heap k.heap; store = union a.store k.store },
+        record {
+          task = refl;
+          stand = refl;
+          holds = refl;
+          supply = refl;
+          heap = (splits-assoc_left t s).0;
+          store = (splits-assoc_left h f).0;
+        },
+      ),
+      λ n here.
+          let unused = v.unused n
+          (Contains-append_left (numbers a.supply) (supplies others) n here) in (
+            (splits-lacks_both n t (splits-lacks_both n s unused.heap).1).0,
+            λ j. (splits-lacks_both (own n j) h
+                (splits-lacks_both (own n j) f (unused.store j)).1).0,
+          ),
+    )
+
+pub children_are_apart : ChildrenAreApart
+unfolding ChildrenAreApart
+children_are_apart before after a one two contents c w l r =
+    let others = before ++ after in
+    let v = order-three (λ parts. Whole parts contents c)
+    (λ x y z k. whole-focus x y z contents c k)
+    (λ x y z k. whole-unfocus x y z contents c k) before after a one two w in
+    let (heap, hs, (x, p, u)) = union-take (a.heap ∷ one.heap ∷ two.heap ∷ [])
+    (map part_heap others ++ map content_heap contents) c.common.heap v.heap in
+    let (store, ss, (y, q, t)) = union-take (a.store ∷ one.store ∷ two.store ∷ [])
+    (map part_store others ++ map content_store contents) c.common.store v.store in (
+      record a { heap = heap; store = store },
+      record {
+        task = refl;
+        stand = refl;
+        holds = refl;
+        heap = hs;
+        store = ss;
+        left_one = l;
+        right_one = r;
+      },
+      λ n i j.
+          let once = v.once n in
+          let first = count-contains n (numbers one.supply) i in
+          let second = count-contains n (numbers two.supply) j in
+          let b = count-append n (numbers a.supply) (supplies (one ∷ two ∷ others)) in
+          let d = count-append n (numbers one.supply) (supplies (two ∷ others)) in
+          let e = count-append n (numbers two.supply) (supplies others) in
+          absurd (omega arith),
+      λ n h.
+          let there = count-contains n (numbers one.supply ++ numbers two.supply) h in
+          let k = count-append n (numbers one.supply) (numbers two.supply) in
+          let b = count-append n (numbers a.supply) (supplies (one ∷ two ∷ others)) in
+          let d = count-append n (numbers one.supply) (supplies (two ∷ others)) in
+          let e = count-append n (numbers two.supply) (supplies others) in
+          let unused = v.unused n (contains-count n (supplies (a ∷ one ∷ two ∷ others))
+          (omega arith)) in (
+            (splits-lacks_both n p unused.heap).0,
+            λ j. (splits-lacks_both (own n j) q (unused.store j)).0,
+          ),
+    )

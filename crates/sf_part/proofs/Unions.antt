@@ -3,7 +3,7 @@
 -- the things.
 use Rattle.std.specs.Prelude.{List, [], ◌∷◌, ◌++◌, map}
 use Rattle.std.proofs.Common.{sym, subst}
-use Rattle.sf_base.proofs.MapSplits.{splits-assoc_left, splits-assoc_right, splits-empty_left, splits-is, splits-of_empty_left, splits-swap, union}
+use Rattle.sf_base.proofs.MapSplits.{empty_map, empty-holds, splits-assoc_left, splits-assoc_right, splits-empty_left, splits-is, splits-of_empty_left, splits-swap, union}
 use Rattle.sf_base.specs.HeapStore.{Map, Splits}
 use Rattle.sf_core.specs.Machine.Whole.{IsUnion}
 
@@ -67,6 +67,15 @@ module _ {K X : Type 0} where
   union-open [] vs w m e (x, p, s) = subst (λ z. IsUnion z vs) (sym (splits-of_empty_left e p)) s
   union-open (u ∷ us) vs w m (y, q, t) s =
       let (x, p, r) = union-part w m u y vs q s in (x, p, union-open us vs x y t r)
+
+  -- the first maps have a union of their own
+  pub union-take : (us vs : List (Map K X)) (w : Map K X) → IsUnion w (us ++ vs)
+      → (m : Map K X) × IsUnion m us × IsUnion w (m ∷ vs)
+  union-take [] vs w s = (empty_map, empty-holds, (w, splits-empty_left empty-holds, s))
+  union-take (u ∷ us) vs w (x, p, s) =
+      let (m, i, (y, q, r)) = union-take us vs x s in
+      let n = splits-assoc_left q p in
+      (union u m, (m, n.0, i), (y, n.1, r))
 
 module _ {A K X : Type 0} (f : A → Map K X) (tail : List (Map K X)) where
   -- the map of the thing in the middle comes first

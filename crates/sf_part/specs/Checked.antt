@@ -3,4 +3,5 @@
 pub mod Laws
 pub mod LawsOfTime
 pub mod LawsOfWhole
+pub mod LawsOfGiving
 pub mod Examples

@@ -2,6 +2,7 @@
 //! step of the machine, and they are a configuration again, whatever the other parts and contents
 //! are. Each function is a law: calling it gives its fact to the caller's proof, and does nothing.
 
+ghost use Rattle.sf_part.specs.Checked.LawsOfGiving.{GivenContentsAreOne};
 ghost use Rattle.sf_part.specs.Checked.Laws.{
   ContentsInAnyOrder,
   EntriesAreSteps,
@@ -92,4 +93,11 @@ pub fn leads_compose()
 #[tactic(auto, using(crate::proofs::Law::first_parts_are_whole))]
 pub fn first_parts_are_whole()
     ensures { FirstPartsAreWhole }
+{}
+
+/// What a part gives up is determined: of one part there is one way to give up just what the
+/// invariant of a resource asks for, where the invariants are determined.
+#[tactic(auto, using(crate::proofs::Giving::given_contents_are_one))]
+pub fn given_contents_are_one()
+    ensures { GivenContentsAreOne }
 {}

@@ -1,7 +1,9 @@
 //! What a part tells of the whole that it belongs to. Each function is a law, and does nothing.
 
 ghost use Rattle.sf_part.specs.Checked.LawsOfWhole.{
+  ChildrenAreApart,
   ConditionsAreSeenAlike,
+  ContentsAreApart,
   HeldAreOfTheProgram,
   PartsHold,
   RunningEntriesAreAlone,
@@ -44,4 +46,18 @@ pub fn conditions_are_seen_alike()
 #[tactic(auto, using(crate::proofs::Seen::held_are_of_the_program))]
 pub fn held_are_of_the_program()
     ensures { HeldAreOfTheProgram }
+{}
+
+/// A part and a content of one whole have nothing in common, so the part may take the content in;
+/// and no unit of the part is a location of the content or the number of a slot of it.
+#[tactic(auto, using(crate::proofs::Seen::contents_are_apart))]
+pub fn contents_are_apart()
+    ensures { ContentsAreApart }
+{}
+
+/// The parts of a parent and of its children in one whole have nothing in common, so the parent may
+/// take all in.
+#[tactic(auto, using(crate::proofs::Seen::children_are_apart))]
+pub fn children_are_apart()
+    ensures { ChildrenAreApart }
 {}

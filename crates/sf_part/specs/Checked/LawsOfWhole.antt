@@ -1,12 +1,13 @@
 -- What a part tells of the whole that it belongs to: its task, the resources that it holds, and the
 -- conditions that it sees.
 -- O'Hearn (2007): what a task owns nobody else changes, so what it sees there is so.
-use Rattle.std.specs.Prelude.{◌≡◌, ◌<◌, ◌↔◌, true, List, [], ◌∷◌, ◌++◌, length, Some}
+use Rattle.std.specs.Prelude.{◌≡◌, ◌<◌, ◌↔◌, ℕ, true, List, [], ◌∷◌, ◌++◌, length, Some, None, Contains}
 use Rattle.sf_base.specs.declared.ids.ProcId.{ProcId}
 use Rattle.sf_base.specs.declared.ids.ResId.{ResId}
 use Rattle.sf_base.specs.declared.ids.Var.{Var}
+use Rattle.sf_base.specs.declared.path.Turn.TheVariants.{Left as left, Right as right}
 use Rattle.sf_base.specs.declared.value.Value.{Value}
-use Rattle.sf_base.specs.HeapStore.{Heap, Slot, Store}
+use Rattle.sf_base.specs.HeapStore.{Heap, Slot, Store, own}
 use Rattle.sf_core.specs.declared.assertion.Test.{Test}
 use Rattle.sf_core.specs.declared.command.Expr.{Expr}
 use Rattle.sf_core.specs.Assertions.Sat.{IsTrueOf}
@@ -15,10 +16,10 @@ use Rattle.sf_core.specs.Machine.Enabled.{variable, ReadsTest}
 use Rattle.sf_core.specs.Machine.Reach.{Reach}
 use Rattle.sf_core.specs.Machine.Start.{Start}
 use Rattle.sf_core.specs.Machine.Step.{Event}
-use Rattle.sf_core.specs.Machine.Whole.{running, waiting, Part, Content, Whole}
+use Rattle.sf_core.specs.Machine.Whole.{running, waiting, Part, Content, numbers, Whole}
 use Rattle.sf_core.specs.Program.Formed.{IsFormed}
 use Rattle.sf_core.specs.Program.Syntax.{Program}
-use Rattle.sf_part.specs.Steps.{HasInHand}
+use Rattle.sf_part.specs.Steps.{HasChildren, HasInHand, IsChild}
 
 -- the task of a part that runs runs the part's frames
 unfoldable pub RunningPartsRun : Type 0
@@ -61,3 +62,26 @@ unfoldable pub HeldAreOfTheProgram : Type 0
 HeldAreOfTheProgram = (p : Program) (f : ProcId) (store : Store) (heap : Heap) (start c : Config)
     (events : List Event) → IsFormed p → Start p f store heap start → Reach p start events c
     → (r : ResId) (path : Path) → c.common.held r ≡ Some path → r.0 < length p.resources
+
+-- a part and a content of one whole have nothing in common, so the part may have it in hand; and
+-- no unit of the part is a location of the content, or the number of a slot of it
+unfoldable pub ContentsAreApart : Type 0
+ContentsAreApart = (before after : List Part) (a : Part) (earlier later : List Content)
+    (k : Content)
+    (c : Config) → Whole (before ++ a ∷ after) (earlier ++ k ∷ later) c
+    → ((both : Part) × HasInHand a k both)
+    × ((number : ℕ) → Contains (numbers a.supply) number
+    → (k.heap number ≡ None) × ((index : ℕ) → k.store (own number index) ≡ None))
+
+-- the parts of a parent and of its children in one whole have nothing in common, so the parent may
+-- have all; no unit is in both children's supplies, and none is a location of the three, or the
+-- number of a slot of them
+unfoldable pub ChildrenAreApart : Type 0
+ChildrenAreApart = (before after : List Part) (a one two : Part) (contents : List Content)
+    (c : Config)
+    → Whole (before ++ a ∷ one ∷ two ∷ after) contents c → IsChild a left one → IsChild a right two
+    → (all : Part) × HasChildren a one two all
+    × ((number : ℕ) → Contains (numbers one.supply) number → Contains (numbers two.supply) number
+    → ⊥)
+    × ((number : ℕ) → Contains (numbers one.supply ++ numbers two.supply) number
+    → (all.heap number ≡ None) × ((index : ℕ) → all.store (own number index) ≡ None))
