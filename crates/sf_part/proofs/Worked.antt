@@ -1,21 +1,30 @@
 -- The worked examples of the events of parts.
 -- Names: each lemma has the name of the example's function.
-use Rattle.std.specs.Prelude.{◌≡◌, ℕ, Bool, true, false, cond, List, [], ◌∷◌, ◌++◌, ◌==◌, ◌/◌, take, drop, length, Some, None}
+use Rattle.sf_base.specs.declared.value.Value.{Value}
+use Rattle.sf_base.proofs.HeapSplits.{one-single}
+use Rattle.sf_part.specs.Given.{is_variable_of, IsContentOf}
+use Rattle.sf_core.specs.Program.Syntax.{Resource}
+use Rattle.sf_core.specs.Machine.Start.{entry_slot}
+use Rattle.sf_core.specs.Assertions.Sat.{Sat}
+use Rattle.sf_core.proofs.Machine.Examples.Runs.{one-sat, sat-one}
+use Rattle.sf_core.specs.Checked.Machine.WholeExamples.{nils, cell_at}
+use Rattle.std.proofs.lemmas.Bool.Decides.{nat_tests}
+use Rattle.std.specs.Prelude.{◌≡◌, ℕ, Bool, true, false, cond, List, [], ◌∷◌, ◌++◌, ◌==◌, ◌/◌, take, drop, length, Some, None, is_some, ◌&&◌, ltb}
 use Rattle.std.specs.Option.{unwrap_or}
-use Rattle.std.proofs.Common.{sym, ap, ap₂, ◌∙◌, refl, subst, inl, inr, arith}
-use Rattle.std.proofs.lemmas.Option.{none-some}
+use Rattle.std.proofs.Common.{sym, ap, ap₂, ◌∙◌, refl, subst, inl, inr, arith, true≢false}
+use Rattle.std.proofs.lemmas.Option.{none-some, same_Some}
 use Rattle.sf_base.proofs.MapSplits.{empty_map, empty-holds, map-same, splits-empty_left, splits-empty_right, splits-has_right}
 use Rattle.sf_base.specs.declared.path.Turn.TheVariants.{Left as left}
 use Rattle.sf_base.specs.declared.value.Value.TheVariants.{Nil as nil, Loc as loc}
-use Rattle.sf_base.specs.HeapStore.{Map, shared, own}
-use Rattle.sf_core.specs.Checked.Machine.Examples.{event, forking, lock, one_in, skip}
-use Rattle.sf_core.specs.Machine.Config.{leave, Frame, Path, runs, waits}
+use Rattle.sf_base.specs.HeapStore.{Slot, Map, shared, own, Cell, Heap, IsOne, Store}
+use Rattle.sf_core.specs.Checked.Machine.Examples.{event, forking, lock, one_in, skip, guarding, guarded, shared_one}
+use Rattle.sf_core.specs.Machine.Config.{leave, Frame, Path, runs, waits, evaluate}
 use Rattle.sf_core.specs.Machine.Enabled.{variable, Writes}
 use Rattle.sf_core.specs.Machine.Next.{next}
 use Rattle.sf_core.specs.Machine.Step.{Event, TaskStep, set_holder}
 use Rattle.sf_core.specs.Machine.Supplies.{has, lent, NextTakes}
 use Rattle.sf_core.specs.Machine.Whole.{running, numbers, IsUnion}
-use Rattle.sf_part.specs.Checked.Examples.{frame, assigns, assigning, no_slots, enters, entering, shared_slot, inside, outside, forks, forker, opened, forked, AssigningIsPrivate, OtherNumbersAreNotTaken, SpentPartsHaveNoEvent, OthersVariablesAreNotWritten, EventsAreLogged, EntersWithContent, FalseConditionsAreNotEntered, EntriesComeAfterContents, ExitsWithContent, ContentsGetTheExitsStamp, ForksInHalves, HalvesAreExact, LeftHalvesAreRoundedDown, JoinsTakeTheLeftUnitsFirst}
+use Rattle.sf_part.specs.Checked.Examples.{frame, assigns, assigning, no_slots, enters, entering, shared_slot, inside, outside, forks, forker, opened, forked, AssigningIsPrivate, OtherNumbersAreNotTaken, SpentPartsHaveNoEvent, OthersVariablesAreNotWritten, EventsAreLogged, EntersWithContent, FalseConditionsAreNotEntered, EntriesComeAfterContents, ExitsWithContent, ContentsGetTheExitsStamp, ForksInHalves, HalvesAreExact, LeftHalvesAreRoundedDown, JoinsTakeTheLeftUnitsFirst, of_lock, JustTheContentIsGiven, MissingCellsAreNotGiven, MoreCellsAreNotGiven, KeptVariablesAreNotGiven}
 use Rattle.sf_part.specs.Steps.{common_of, HasSlots, Forks}
 use Rattle.sf_part.specs.Timed.{TimedPart}
 use Rattle.sf_part.proofs.Beside.{takes-join, takes-next, takes-one}
@@ -266,3 +275,57 @@ joins_take_the_left_units_first ev a one two b e l r =
     let n : 6 ≡ ev.number = cc in
     let m : 7 ∷ 9 ∷ [] ≡ numbers b.part.supply = cc in
     (sym n, sym m)
+
+-- What is just a content
+some-if : (b : Bool) (v : Value) → is_some (cond b (Some v) None) ≡ b
+some-if true v = refl
+some-if false v = refl
+
+lock-slots : (v : Value) (slot : Slot) → is_some (shared_slot v slot) ≡ is_variable_of lock 1 slot
+lock-slots v (shared q i) =
+    let e : (i == 0) ≡ ltb i 1 = grind (arith, nat_tests) in
+    some-if ((q.0 == 0) && (i == 0)) v ∙ ap (λ z. (q.0 == 0) && z) e
+lock-slots v (own n i) = refl
+
+pub just_the_content_is_given : JustTheContentIsGiven
+unfolding JustTheContentIsGiven
+just_the_content_is_given = record {
+  resource = guarding;
+  there = refl;
+  variables = lock-slots (loc 1);
+  invariant = one-sat shared_one (evaluate entry_slot (shared_slot (loc 1))) (cell_at 1) 1 nils refl
+      (one-single 1 nils);
+}
+
+-- what satisfies the invariant has the cell at the variable
+lock-cell : (store : Store) (heap : Heap) (c : IsContentOf guarded (of_lock store heap))
+    → (location : ℕ) × (here : Cell) × (evaluate entry_slot store shared_one ≡ loc location)
+    × IsOne location here heap
+lock-cell store heap c =
+    let same : guarding ≡ c.resource = same_Some guarding c.resource c.there in
+    sat-one shared_one (evaluate entry_slot store) heap
+    (subst (λ (r : Resource). Sat r.invariant.level (evaluate entry_slot store) (λ n. nil) heap)
+    (sym same)
+    c.invariant)
+
+pub missing_cells_are_not_given : MissingCellsAreNotGiven
+unfolding MissingCellsAreNotGiven
+missing_cells_are_not_given c =
+    let (location, here, is, one) = lock-cell (shared_slot (loc 1)) (λ location. None) c in
+    none-some here one.here
+
+pub more_cells_are_not_given : MoreCellsAreNotGiven
+unfolding MoreCellsAreNotGiven
+more_cells_are_not_given c =
+    let (location, here, is, one) = lock-cell (shared_slot (loc 1))
+    (λ l. cond (l == 1) (Some nils) (cell_at 2 l)) c in
+    let at : 1 ≡ location = cc in
+    none-some nils (sym (one.elsewhere 2 (λ e. let f : ◌≡◌ {A = ℕ} 2 1 = e
+    ∙ sym at in absurd (omega arith))))
+
+pub kept_variables_are_not_given : KeptVariablesAreNotGiven
+unfolding KeptVariablesAreNotGiven
+kept_variables_are_not_given c =
+    let same : guarding ≡ c.resource = same_Some guarding c.resource c.there in
+    true≢false (sym (c.variables (shared lock 0)
+    ∙ ap (λ (r : Resource). is_variable_of lock (length r.variables) (shared lock 0)) (sym same)))

@@ -10,7 +10,11 @@ ghost use Rattle.sf_part.specs.Checked.Examples.{
   ForksInHalves,
   HalvesAreExact,
   JoinsTakeTheLeftUnitsFirst,
+  JustTheContentIsGiven,
+  KeptVariablesAreNotGiven,
   LeftHalvesAreRoundedDown,
+  MissingCellsAreNotGiven,
+  MoreCellsAreNotGiven,
   OtherNumbersAreNotTaken,
   OthersVariablesAreNotWritten,
   SpentPartsHaveNoEvent,
@@ -98,4 +102,28 @@ pub fn left_halves_are_rounded_down()
 #[tactic(auto, using(crate::proofs::Worked::joins_take_the_left_units_first))]
 pub fn joins_take_the_left_units_first()
     ensures { JoinsTakeTheLeftUnitsFirst }
+{}
+
+/// A resource's variable with the cell of its invariant is just its content.
+#[tactic(auto, using(crate::proofs::Worked::just_the_content_is_given))]
+pub fn just_the_content_is_given()
+    ensures { JustTheContentIsGiven }
+{}
+
+/// Without the cell it isn't.
+#[tactic(auto, using(crate::proofs::Worked::missing_cells_are_not_given))]
+pub fn missing_cells_are_not_given()
+    ensures { MissingCellsAreNotGiven }
+{}
+
+/// Nor is it with another cell beside it.
+#[tactic(auto, using(crate::proofs::Worked::more_cells_are_not_given))]
+pub fn more_cells_are_not_given()
+    ensures { MoreCellsAreNotGiven }
+{}
+
+/// Nor without the variable.
+#[tactic(auto, using(crate::proofs::Worked::kept_variables_are_not_given))]
+pub fn kept_variables_are_not_given()
+    ensures { KeptVariablesAreNotGiven }
 {}

@@ -4,16 +4,17 @@ use Rattle.std.specs.Prelude.{◌≡◌, ℕ, true, false, cond, List, [], ◌�
 use Rattle.sf_base.specs.declared.path.Turn.TheVariants.{Left as left, Right as right}
 use Rattle.sf_base.specs.declared.value.Value.{Value}
 use Rattle.sf_base.specs.declared.value.Value.TheVariants.{Nil as nil, Loc as loc}
-use Rattle.sf_base.specs.HeapStore.{Store, shared, own, same_slot}
+use Rattle.sf_base.specs.HeapStore.{Heap, Store, shared, own, same_slot}
 use Rattle.sf_core.specs.declared.assertion.Test.TheVariants.{Equal}
 use Rattle.sf_core.specs.declared.command.Expr.TheVariants.{Nil}
-use Rattle.sf_core.specs.Checked.Machine.Examples.{at_own, calls, event, forking, here, lock, one_in, shared_one, skip}
-use Rattle.sf_core.specs.Checked.Machine.WholeExamples.{range}
+use Rattle.sf_core.specs.Checked.Machine.Examples.{at_own, calls, event, forking, guarded, here, lock, one_in, shared_one, skip}
+use Rattle.sf_core.specs.Checked.Machine.WholeExamples.{cell_at, nils, range}
 use Rattle.sf_core.specs.Machine.Config.{Item, command, leave, Frame, Path, Common}
 use Rattle.sf_core.specs.Machine.Start.{entry_slot}
 use Rattle.sf_core.specs.Machine.Step.{Event, arguments, callee_frame, open_room, room_count, room_for}
-use Rattle.sf_core.specs.Machine.Whole.{Range, Stand, running, waiting, Part, numbers}
+use Rattle.sf_core.specs.Machine.Whole.{Range, Stand, running, waiting, Part, numbers, Content}
 use Rattle.sf_core.specs.Program.Syntax.{assign, fork, with, done}
+use Rattle.sf_part.specs.Given.{IsContentOf}
 use Rattle.sf_part.specs.Steps.{common_of, Private, Enters, Exits, Forks, Joins}
 use Rattle.sf_part.specs.Timed.{Stamped, TimedPart, TimedContent}
 
@@ -144,6 +145,28 @@ ExitsWithContent = Exits forking (event (left ∷ []) 6) inside (content nil 11)
 unfoldable pub ContentsGetTheExitsStamp : Type 0
 ContentsGetTheExitsStamp = (ev : Event) (b : TimedPart) → Exits forking ev inside (content nil 10) b
     → ⊥
+
+-- of resource lock (v) [v |->]: these slots and cells
+abbrev pub of_lock : Store → Heap → Content
+of_lock store heap = record { resource = lock; heap = heap; store = store }
+
+-- its variable at location 1, with the cell there, is just its content
+unfoldable pub JustTheContentIsGiven : Type 0
+JustTheContentIsGiven = IsContentOf guarded (of_lock (shared_slot (loc 1)) (cell_at 1))
+
+-- without the cell it isn't
+unfoldable pub MissingCellsAreNotGiven : Type 0
+MissingCellsAreNotGiven = IsContentOf guarded (of_lock (shared_slot (loc 1)) (λ location. None)) → ⊥
+
+-- nor with another one beside it
+unfoldable pub MoreCellsAreNotGiven : Type 0
+MoreCellsAreNotGiven = IsContentOf guarded
+    (of_lock (shared_slot (loc 1)) (λ location. cond (location == 1) (Some nils)
+    (cell_at 2 location))) → ⊥
+
+-- nor without the variable
+unfoldable pub KeptVariablesAreNotGiven : Type 0
+KeptVariablesAreNotGiven = IsContentOf guarded (of_lock no_slots (cell_at 1)) → ⊥
 
 -- skip() || skip();
 abbrev pub forks : List Item
