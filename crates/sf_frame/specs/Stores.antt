@@ -1,5 +1,6 @@
--- The store of the code as the store of the definitions.
--- Ordinary: the map that it keeps.
+-- The store of the code as the store of the definitions, and two stores as one.
+-- Ordinary: the map that it keeps; maps of which one is tried first.
+use Rattle.std.specs.Option.{option_or}
 use Rattle.sf_base.specs.HeapStore.{Store}
 use Rattle.sf_frame.specs.declared.store.Store.{Store as CodeStore}
 use Rattle.sf_frame.specs.Spots.{store_by}
@@ -7,3 +8,7 @@ use Rattle.sf_frame.specs.Spots.{store_by}
 -- the store
 abbrev pub store_of : CodeStore → Store
 store_of s = store_by s.values
+
+-- two stores together: a slot that the first one lacks has what the other one has in it
+abbrev pub together : Store → Store → Store
+together one other slot = option_or (one slot) (other slot)

@@ -5,7 +5,7 @@
 //! - `store`, `rooms`: the values of variables by their slots, and rooms of slots that come up.
 //! - `frame`: frames, and what they have still to do. `stack`: the frames of a task.
 //! - `shared`: the cells, the values of variables, and who holds the resources.
-//! - `values`: the values of expressions and tests.
+//! - `look`: where values are looked up. `values`: the values of expressions and tests.
 //! - `entry`: the first frames of a run. `calling`: the frames of callees, and their values.
 //! - `following`: what a stack of frames does next.
 //! - `stamp`: events. `refusal`: why the event of a command is none.
@@ -24,6 +24,7 @@ mod effect;
 mod entry;
 mod following;
 mod frame;
+mod look;
 mod plan;
 mod refusal;
 mod rooms;
@@ -40,6 +41,7 @@ pub use effect::{Effect, Opening};
 pub use entry::{entry_frame, init_frame};
 pub use following::{Next, next_of};
 pub use frame::{Frame, GoOn, Room};
+pub use look::{Both, Look};
 pub use plan::{Plan, plan_command};
 pub use refusal::Refusal;
 pub use rooms::{close, open};

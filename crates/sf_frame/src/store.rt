@@ -31,6 +31,17 @@ impl Store {
         }
     }
 
+    /// The value in a slot, if it is there.
+    #[tactic(auto, using(crate::proofs::Spots::spot_slot))]
+    pub fn find(&self, spot: Spot) -> Option<Value>
+        ensures { result ≡ store_of self.now (slot_of spot) }
+    {
+        match self.values.get(&spot) {
+            Some(value) => Some(*value),
+            None => None,
+        }
+    }
+
     /// The value in a slot, nil where there is none.
     #[tactic(auto, using(crate::proofs::Spots::spot_slot))]
     pub fn get(&self, spot: Spot) -> Value
