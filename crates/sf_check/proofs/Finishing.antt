@@ -9,10 +9,13 @@ use Rattle.sf_core.specs.Program.Syntax.{Procedure}
 use Rattle.sf_sym.specs.declared.tag.Tag.{Tag}
 use Rattle.sf_sym.specs.declared.tag.Tag.TheVariants.{Procedure as Begin}
 use Rattle.sf_sym.specs.Goal.{Goal}
+use Rattle.sf_rules.specs.Checked.Lemmas.RowRules.{row-leaves}
+use Rattle.sf_rules.specs.Checked.Lemmas.RuleRows.{leaves-row}
 use Rattle.sf_rules.specs.First.{first_goal}
 use Rattle.sf_rules.specs.Proving.{Proof, by, Proofs, no_more, and, preorder, preorders, ProvesFrom, Proves}
 use Rattle.sf_rules.specs.Setting.{Setting}
-use Rattle.sf_check.specs.Stand.{Stand, start, after, is_finished}
+use Rattle.sf_check.specs.Checked.Taken.{after}
+use Rattle.sf_check.specs.Stand.{Stand, start, is_finished}
 use Rattle.sf_check.proofs.Taking.{begin-taken, begin-takes, child-taken, child-takes, after-first, after-next, finished-parts, finished-from}
 use Rattle.sf_rules.specs.Checked.Lemmas.{proofs-split, proof-one, proofs-none}
 
@@ -27,7 +30,7 @@ mutual
       ≡ after d (record { begun = f; goals = hs }) us
   proof-closes d f g (by t left r qs) hs us =
       after-next d (record { begun = f; goals = g ∷ hs }) t (preorders qs ++ us)
-      (record { begun = f; goals = left ++ hs }) (child-takes d f g hs t left r)
+      (record { begun = f; goals = left ++ hs }) (child-takes d f g hs t left (leaves-row d g t left r))
       ∙ proofs-close d f left qs hs us
 
   -- those of proofs of goals close them
@@ -130,7 +133,7 @@ parted d (tag ∷ tags) f (g ∷ gs) h =
     let k = parted d tags f (now.0 ++ gs) (subst (λ s. Finishes d s tags) now.2 (h.0, one.2, h.2)) in
     let parts = proofs-split d now.0 gs k.proofs in
     record {
-      proofs = and g gs refl (by tag now.0 now.1 parts.0) parts.1;
+      proofs = and g gs refl (by tag now.0 (row-leaves d g tag now.0 now.1) parts.0) parts.1;
       rest = k.rest;
       is = ap (λ ts. tag ∷ ts) (k.is ∙ ap (λ ts. ts ++ k.rest) parts.2);
       others = k.others;

@@ -7,9 +7,10 @@ use Rattle.sf_rules.specs.Setting.{Setting}
 use Rattle.sf_check.specs.declared.refusal.Refusal.{Refusal}
 use Rattle.sf_check.specs.declared.refusal.Refusal.TheVariants.{NotARule, Unfinished, Leftover}
 use Rattle.sf_check.specs.Refusal.{Refused, StopsAt, EndsOpen}
-use Rattle.sf_check.specs.Stand.{Stand, start, taken, after, is_finished}
+use Rattle.sf_check.specs.Checked.Taken.{taken, after}
+use Rattle.sf_check.specs.Stand.{Stand, start, is_finished}
 use Rattle.sf_check.proofs.Finishing.{Finishes}
-use Rattle.sf_check.proofs.Taking.{after-append, after-next, after-stop}
+use Rattle.sf_check.proofs.Taking.{after-all, after-append, after-next, after-stop, all-after, none-taken, taken-none}
 
 -- a refusal of these tags
 abbrev pub IsRefused : Setting → List Tag → Type 0
@@ -24,7 +25,7 @@ walk d [] before s e =
     ended : (b : Bool) → is_finished d s ≡ b → Finishes d start before ⊎ IsRefused d before
     ended true i = inl (s, e, i)
     ended false i =
-        inr (length before, Unfinished, record { stand = s; counted = refl; taken_all = e; is = i })
+        inr (length before, Unfinished, record { stand = s; counted = refl; taken_all = after-all d start before s e; is = i })
 walk d (tag ∷ tags) before s e =
     go (taken d s tag) refl (λ t i. walk d tags (before ++ tag ∷ []) t
     (after-append d before start (tag ∷ []) s e ∙ after-next d s tag [] t i))
@@ -38,8 +39,8 @@ walk d (tag ∷ tags) before s e =
       stand = s;
       are = refl;
       counted = refl;
-      taken_before = e;
-      not_taken = none;
+      taken_before = after-all d start before s e;
+      not_taken = taken-none d s tag none;
       is = i;
     }
 
@@ -63,7 +64,8 @@ finishes-or_refused d tags = walk d tags [] start refl
 pub stop-none : (d : Setting) (tags : List Tag) (n : ℕ) (b : Bool) → StopsAt d tags n b
     → after d start tags ≡ None
 stop-none d tags n b s =
-    ap (after d start) s.are ∙ after-stop d s.before start s.tag s.rest s.stand s.taken_before s.not_taken
+    ap (after d start) s.are ∙ after-stop d s.before start s.tag s.rest s.stand
+    (all-after d start s.before s.stand s.taken_before) (none-taken d s.stand s.tag s.not_taken)
 
 -- tags that lead to a stand where all is proved are not refused
 pub refused-never : (d : Setting) (tags : List Tag) (n : ℕ) (why : Refusal) → Finishes d start tags
@@ -71,7 +73,8 @@ pub refused-never : (d : Setting) (tags : List Tag) (n : ℕ) (why : Refusal) �
 refused-never d tags n NotARule h r = some-none h.0 (sym h.1 ∙ stop-none d tags n false r)
 refused-never d tags n Leftover h r = some-none h.0 (sym h.1 ∙ stop-none d tags n true r)
 refused-never d tags n Unfinished h r =
-    let same : h.0 ≡ r.stand = some-once (after d start tags) h.0 r.stand h.1 r.taken_all in
+    let same : h.0 ≡ r.stand = some-once (after d start tags) h.0 r.stand h.1
+    (all-after d start tags r.stand r.taken_all) in
     let is : is_finished d h.0 ≡ false = ap (is_finished d) same ∙ r.is in
     absurd (both (is_finished d h.0) h.2 is)
   where
@@ -117,18 +120,23 @@ stop-once d tags n m b c s t =
         → (n ≡ m) × (b ≡ c)
     go (inl k) =
         let same : s.stand ≡ t.stand = some-once (after d start t.before) s.stand t.stand
-        (sym (ap (after d start) k.0) ∙ s.taken_before) t.taken_before in (
+        (sym (ap (after d start) k.0) ∙ all-after d start s.before s.stand s.taken_before)
+        (all-after d start t.before t.stand t.taken_before) in (
           sym s.counted ∙ (ap length k.0 ∙ t.counted),
           sym s.is ∙ (ap (is_finished d) same ∙ t.is),
         )
     go (inr (inl k)) =
-        absurd (stop-first d s.before t.before s.tag s.stand t.stand s.taken_before s.not_taken k t.taken_before)
+        absurd (stop-first d s.before t.before s.tag s.stand t.stand
+        (all-after d start s.before s.stand s.taken_before) (none-taken d s.stand s.tag s.not_taken) k
+        (all-after d start t.before t.stand t.taken_before))
     go (inr (inr k)) =
-        absurd (stop-first d t.before s.before t.tag t.stand s.stand t.taken_before t.not_taken k s.taken_before)
+        absurd (stop-first d t.before s.before t.tag t.stand s.stand
+        (all-after d start t.before t.stand t.taken_before) (none-taken d t.stand t.tag t.not_taken) k
+        (all-after d start s.before s.stand s.taken_before))
 
 -- tags that stop don't end with what is open
 stop-not_ends : (d : Setting) (tags : List Tag) (n m : ℕ) (b : Bool) → StopsAt d tags n b → EndsOpen d tags m → ⊥
-stop-not_ends d tags n m b s t = some-none t.stand (sym t.taken_all ∙ stop-none d tags n b s)
+stop-not_ends d tags n m b s t = some-none t.stand (sym (all-after d start tags t.stand t.taken_all) ∙ stop-none d tags n b s)
 
 -- tags are refused at one number, for one reason
 pub refused-once : (d : Setting) (tags : List Tag) (n m : ℕ) (why other : Refusal) → Refused d tags n why

@@ -1,21 +1,24 @@
 -- What tags are taken, one by one: what a stand after them tells, and which stand they lead to.
 -- Names: `begin-LAW` and `child-LAW` speak of one tag, with no goal open and at an open one; `after-LAW` of tags;
 -- `finished-LAW` of a stand where all is proved.
-use Rattle.std.proofs.Common.{◌≡◌, ℕ, suc, ◌≤◌, true, Option, Some, None, List, [], ◌∷◌, ◌++◌, length, refl, ap, ◌∙◌, arith}
+use Rattle.std.proofs.Common.{◌≡◌, ℕ, suc, ◌≤◌, true, Option, Some, None, List, [], ◌∷◌, ◌++◌, length, refl, sym, ap, ◌∙◌, subst, arith}
 use Rattle.std.specs.Prelude.{◌==◌, nat_le, cond}
 use Rattle.std.specs.List.{slice_get}
 use Rattle.std.specs.Option.{option_and_then, option_map}
 use Rattle.std.proofs.lemmas.Bool.Decides.{nat_tests}
-use Rattle.std.proofs.lemmas.Option.{cond_some, option_and_then_some}
+use Rattle.std.proofs.lemmas.Option.{cond_some, option_and_then_some, same_Some}
 use Rattle.sf_base.proofs.Options.{option_map-some}
 use Rattle.sf_core.specs.Program.Syntax.{Procedure}
 use Rattle.sf_sym.specs.declared.tag.Tag.{Tag}
 use Rattle.sf_sym.specs.declared.tag.Tag.TheVariants.{Procedure as Begin}
 use Rattle.sf_sym.specs.Goal.{Goal}
 use Rattle.sf_rules.specs.First.{first_goal}
+use Rattle.sf_rules.specs.Checked.Lemmas.RowRules.{row-leaves}
+use Rattle.sf_rules.specs.Checked.Lemmas.RuleRows.{leaves-row}
 use Rattle.sf_rules.specs.Rows.Whole.{row}
 use Rattle.sf_rules.specs.Setting.{Setting}
-use Rattle.sf_check.specs.Stand.{Stand, is_begin, begin, taken_at, taken, after, is_finished}
+use Rattle.sf_check.specs.Checked.Taken.{is_begin, begin, taken_at, taken, after}
+use Rattle.sf_check.specs.Stand.{Stand, Takes, TakesAll, begins, goes_on, is_finished}
 
 -- the tag of a procedure begins it
 pub begin-own : (f : ℕ) → is_begin f (Begin (record { 0 = f })) ≡ true
@@ -111,3 +114,54 @@ finished-from d f h = go (length d.program.procedures) h
   where
     go : (n : ℕ) → n ≤ f → nat_le n f ≡ true
     go n h = grind (arith, nat_tests)
+
+-- THE FUNCTION AND THE RELATION
+-- what is taken by the relation is taken by the function
+takes-taken : (d : Setting) (s : Stand) (tag : Tag) (t : Stand) → Takes d s tag t → taken d s tag ≡ Some t
+takes-taken d _ _ _ (begins {f = f} {x = x} there) = begin-takes d f x there
+takes-taken d _ _ _ (goes_on {f = f} {goal = goal} {left = left} {rest = rest} {tag = tag} rule) =
+    child-takes d f goal rest tag left (leaves-row d goal tag left rule)
+
+-- and back
+taken-takes : (d : Setting) (s : Stand) (tag : Tag) (t : Stand) → taken d s tag ≡ Some t → Takes d s tag t
+taken-takes d s tag t e = go s.goals e
+  where
+    go : (gs : List Goal) → taken_at d s.begun gs tag ≡ Some t
+        → Takes d (record { begun = s.begun; goals = gs }) tag t
+    go [] e =
+        let now = begin-taken d s.begun tag t e in
+        subst (Takes d (record { begun = s.begun; goals = [] }) tag) now.3
+        (subst (λ z. Takes d (record { begun = s.begun; goals = [] }) z
+        (record { begun = suc s.begun; goals = first_goal d (record { 0 = s.begun }) now.0 ∷ [] })) (sym now.2)
+        (begins now.1))
+    go (g ∷ gs) e =
+        let now = child-taken d s.begun g gs tag t e in
+        subst (Takes d (record { begun = s.begun; goals = g ∷ gs }) tag) (sym now.2)
+        (goes_on (row-leaves d g tag now.0 now.1))
+
+-- the same of tags in turn
+pub all-after : (d : Setting) (s : Stand) (tags : List Tag) (t : Stand) → TakesAll d s tags t
+    → after d s tags ≡ Some t
+all-after d s [] t k = ap (λ z. Some z) k
+all-after d s (tag ∷ tags) t k =
+    after-next d s tag tags k.0 (takes-taken d s tag k.0 k.1) ∙ all-after d k.0 tags t k.2
+
+pub after-all : (d : Setting) (s : Stand) (tags : List Tag) (t : Stand) → after d s tags ≡ Some t
+    → TakesAll d s tags t
+after-all d s [] t e = same_Some s t e
+after-all d s (tag ∷ tags) t e =
+    let one = after-first d s tag tags t e in
+    (one.0, taken-takes d s tag one.0 one.1, after-all d one.0 tags t one.2)
+
+-- and of a tag that isn't taken
+pub none-taken : (d : Setting) (s : Stand) (tag : Tag) → ((next : Stand) → ¬ Takes d s tag next)
+    → taken d s tag ≡ None
+none-taken d s tag k = go (taken d s tag) refl
+  where
+    go : (o : Option Stand) → taken d s tag ≡ o → o ≡ None
+    go None e = refl
+    go (Some t) e = absurd (k t (taken-takes d s tag t e))
+
+pub taken-none : (d : Setting) (s : Stand) (tag : Tag) → taken d s tag ≡ None
+    → (next : Stand) → ¬ Takes d s tag next
+taken-none d s tag e next k = absurd (let f : Some next ≡ None = sym (takes-taken d s tag next k) ∙ e in cc)

@@ -10,9 +10,10 @@ use Rattle.sf_sym.specs.declared.tag.Tag.{Tag}
 use Rattle.sf_rules.specs.Proving.{Proves}
 use Rattle.sf_rules.specs.Setting.{Setting}
 use Rattle.sf_check.specs.Refusal.{StopsAt, EndsOpen}
-use Rattle.sf_check.specs.Stand.{Stand, start, begin, taken_at, taken, after, is_finished}
+use Rattle.sf_check.specs.Checked.Taken.{begin, taken_at, taken, after}
+use Rattle.sf_check.specs.Stand.{Stand, start, is_finished}
 use Rattle.sf_check.proofs.Finishing.{finishes-proves}
-use Rattle.sf_check.proofs.Taking.{after-append, after-next, finished-parts}
+use Rattle.sf_check.proofs.Taking.{after-all, after-append, after-next, finished-parts, taken-none}
 
 -- where all is proved no tag is taken
 pub finished-none : (d : Setting) (s : Stand) (tag : Tag) → is_finished d s ≡ true → taken d s tag ≡ None
@@ -32,8 +33,8 @@ tag-stops d tags i s z b h e none is = record {
   stand = s;
   are = split_at tags i z h;
   counted = length-take-le i tags (omega arith);
-  taken_before = e;
-  not_taken = none;
+  taken_before = after-all d start (take i tags) s e;
+  not_taken = taken-none d s (get_or tags i z) none;
   is = is;
 }
 
@@ -58,4 +59,9 @@ end-proves d tags i s h e is = finishes-proves d tags (s, end-led d tags i s h e
 -- if not, they end with what is open
 pub end-open : (d : Setting) (tags : List Tag) (i : ℕ) (s : Stand) → length tags ≤ i
     → after d start (take i tags) ≡ Some s → is_finished d s ≡ false → EndsOpen d tags (length tags)
-end-open d tags i s h e is = record { stand = s; counted = refl; taken_all = end-led d tags i s h e; is = is }
+end-open d tags i s h e is = record {
+  stand = s;
+  counted = refl;
+  taken_all = after-all d start tags s (end-led d tags i s h e);
+  is = is;
+}

@@ -2,3 +2,4 @@
 -- One module for each.
 pub mod Laws
 pub mod Stands
+pub mod Taken

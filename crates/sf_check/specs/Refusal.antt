@@ -1,13 +1,13 @@
 -- Refused: why tags don't prove a program, and at which of them that shows.
 -- This project's own notion: the first tag that a proof can't go on with, or the end where a proof can't end.
-use Rattle.std.specs.Prelude.{◌≡◌, ℕ, Bool, true, false, Some, None, List, ◌∷◌, ◌++◌, length}
+use Rattle.std.specs.Prelude.{◌≡◌, ℕ, Bool, true, false, List, ◌∷◌, ◌++◌, length}
 use Rattle.sf_sym.specs.declared.tag.Tag.{Tag}
 use Rattle.sf_rules.specs.Setting.{Setting}
 use Rattle.sf_check.specs.declared.refusal.CheckFault.{CheckFault}
 use Rattle.sf_check.specs.declared.refusal.CheckFault.TheVariants.{Refused as IsRefused, OutOfMemory}
 use Rattle.sf_check.specs.declared.refusal.Refusal.{Refusal}
 use Rattle.sf_check.specs.declared.refusal.Refusal.TheVariants.{NotARule, Unfinished, Leftover}
-use Rattle.sf_check.specs.Stand.{Stand, start, taken, after, is_finished}
+use Rattle.sf_check.specs.Stand.{Stand, Takes, TakesAll, is_finished, start}
 
 -- the tags before that of this number are taken, and this one isn't, where all is proved or where it isn't
 pub record StopsAt (d : Setting) (tags : List Tag) (number : ℕ) (finished : Bool) : Type 0 where
@@ -17,15 +17,15 @@ pub record StopsAt (d : Setting) (tags : List Tag) (number : ℕ) (finished : Bo
   pub stand : Stand
   pub are : tags ≡ before ++ tag ∷ rest
   pub counted : length before ≡ number
-  pub taken_before : after d start before ≡ Some stand
-  pub not_taken : taken d stand tag ≡ None
+  pub taken_before : TakesAll d start before stand
+  pub not_taken : (next : Stand) → ¬ Takes d stand tag next
   pub is : is_finished d stand ≡ finished
 
 -- all the tags, of which there are so many, are taken, and not all is proved
 pub record EndsOpen (d : Setting) (tags : List Tag) (number : ℕ) : Type 0 where
   pub stand : Stand
   pub counted : length tags ≡ number
-  pub taken_all : after d start tags ≡ Some stand
+  pub taken_all : TakesAll d start tags stand
   pub is : is_finished d stand ≡ false
 
 -- Refused: the tags are refused at that number, counted from 0, for that reason

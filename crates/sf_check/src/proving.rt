@@ -9,7 +9,8 @@ ghost use Rattle.sf_check.specs.declared.refusal.CheckFault.TheVariants.{OutOfMe
 ghost use Rattle.sf_check.specs.declared.refusal.Refusal.{Refusal as RefusalOf};
 ghost use Rattle.sf_check.specs.Proven.{Proven};
 ghost use Rattle.sf_check.specs.Refusal.{IfRefused, Refused};
-ghost use Rattle.sf_check.specs.Stand.{begin, is_finished, taken, taken_at};
+ghost use Rattle.sf_check.specs.Checked.Taken.{begin, taken, taken_at};
+ghost use Rattle.sf_check.specs.Stand.{is_finished};
 ghost use Rattle.sf_precise.specs.Order.{IsOrdering};
 ghost use Rattle.sf_rules.specs.Checked.Children.{stack_of};
 ghost use Rattle.sf_rules.specs.Setting.{Setting, setting_of};

@@ -23,7 +23,8 @@ use Rattle.sf_rules.proofs.ShapedRows.{ProgramFits, cases-keep}
 use Rattle.sf_rules.specs.Checked.LawsOfShape.{FirstGoalsAreShaped, FirstGoalsAreSmall, GoalsAreShaped, IsGrown, IsLeft, IsSetUp, RowsKeepShape}
 use Rattle.sf_rules.specs.Checked.RowCases.{RowsHaveCases}
 use Rattle.sf_rules.specs.First.{first_goal}
-use Rattle.sf_rules.specs.Rows.Whole.{row}
+use Rattle.sf_rules.specs.Checked.Lemmas.RuleRows.{leaves-row}
+use Rattle.sf_rules.specs.Rules.{Leaves}
 use Rattle.sf_rules.specs.Setting.{Setting}
 use Rattle.sf_rules.specs.Shape.{AnnotationFits, BlockFits, IsGoalAfter, IsShaped}
 use Rattle.sf_sym.specs.declared.tag.Tag.{Tag}
@@ -115,10 +116,10 @@ module _ (laws : LawsBelow) (d : Setting) (up : IsSetUp d) where
 
   -- the goals that a row leaves
   left-is : (laws_of_rows : RowLaws) (goal : Goal) (tag : Tag) (left : List Goal) → IsShaped d goal
-      → row d goal tag ≡ Some left → AllByRecursion (IsLeft d goal.state) left
+      → Leaves d goal tag left → AllByRecursion (IsLeft d goal.state) left
   unfolding RowsHaveCases
   left-is laws_of_rows goal tag left h e =
-      let cases = laws_of_rows.cases d goal tag left e in
+      let cases = laws_of_rows.cases d goal tag left (leaves-row d goal tag left e) in
       both left (cases-keep d formed-program goal left (shaped-fitting d goal h) cases)
       (rows-orderly laws_of_rows d formed-program goal left h cases)
     where

@@ -1,27 +1,31 @@
--- Proves: tags that prove every procedure of a program, each by a finite tree of rows below its first goal.
--- Berdine, Calcagno, O'Hearn, "Symbolic Execution with Separation Logic" (2005): proof search as a tree
--- of rule applications.
-use Rattle.std.specs.Prelude.{◌≡◌, ℕ, suc, Some, List, [], ◌∷◌, ◌++◌}
+-- Proves: tags that prove every procedure of a program, each by a finite tree of rules below its
+-- first goal.
+-- Berdine, Calcagno, O'Hearn, "Symbolic Execution with Separation Logic" (2005): proof search as a
+-- tree of rule applications.
+use Rattle.std.specs.Prelude.{◌≡◌, ℕ, suc, List, [], ◌∷◌, ◌++◌}
 use Rattle.sf_core.specs.Program.Syntax.{Procedure}
 use Rattle.sf_sym.specs.declared.tag.Tag.{Tag}
 use Rattle.sf_sym.specs.declared.tag.Tag.TheVariants.{Procedure as Begin}
 use Rattle.sf_sym.specs.Goal.{Goal}
 use Rattle.sf_rules.specs.First.{first_goal}
-use Rattle.sf_rules.specs.Rows.Whole.{row}
+use Rattle.sf_rules.specs.Rules.{Leaves}
 use Rattle.sf_rules.specs.Setting.{Setting}
 
 mutual
-  -- a proof of a goal: a tag that has a row there, and proofs of the goals that are left
+  -- a proof of a goal: a tag that leaves goals of it by a rule, and proofs of these
   pub data Proof (d : Setting) : Goal → Type 0 where
-    by : {goal : Goal} → (tag : Tag) (left : List Goal) → row d goal tag ≡ Some left → Proofs d left → Proof d goal
+    by : {goal : Goal} → (tag : Tag) (left : List Goal) → Leaves d goal tag left → Proofs d left
+        → Proof d goal
 
   -- a proof of each of the goals
   pub data Proofs (d : Setting) : List Goal → Type 0 where
     no_more : {goals : List Goal} → goals ≡ [] → Proofs d goals
-    and : {goals : List Goal} → (goal : Goal) (others : List Goal) → goals ≡ goal ∷ others → Proof d goal
+    and : {goals : List Goal} → (goal : Goal) (others : List Goal) → goals ≡ goal ∷ others
+        → Proof d goal
         → Proofs d others → Proofs d goals
 
--- the tags of a proof, each goal's before those of the goals that it leaves, the first of these first
+-- the tags of a proof, each goal's before those of the goals that it leaves, the first of these
+-- first
 abbrev mutual
   pub preorder : {d : Setting} {goal : Goal} → Proof d goal → List Tag
   preorder (by tag left r proofs) = tag ∷ preorders proofs

@@ -1,5 +1,5 @@
 -- IsShaped: what each goal of a program's procedure is like, as a whole and in its program; and which goals those are, by
--- how many tags they come after. A first goal has the shape, and every row keeps it.
+-- how many tags they come after. A first goal has the shape, and every rule keeps it.
 -- Berdine, Calcagno, O'Hearn, "Symbolic Execution with Separation Logic" (2005), section 4: what symbolic execution
 -- starts from and keeps.
 use Rattle.std.specs.Prelude.{◌≡◌, ℕ, zero, suc, ◌+◌, ◌<◌, true, Some, List, [], ◌∷◌, is_some, length, Contains}
@@ -10,9 +10,9 @@ use Rattle.sf_core.specs.declared.fields.Links.{Links}
 use Rattle.sf_core.specs.Program.Syntax.{Assertion, Block, done, then, Call, Command, assign, look_up, mutate, new, dispose, if, while, call, fork, with, Resource}
 use Rattle.sf_rules.specs.declared.few.TheConstants.{TOO_MANY}
 use Rattle.sf_rules.specs.First.{links_of}
-use Rattle.sf_rules.specs.Rows.Whole.{row}
 use Rattle.sf_rules.specs.Setting.{Setting}
 use Rattle.sf_rules.specs.Words.{pending_assertion}
+use Rattle.sf_rules.specs.Rules.{Leaves}
 use Rattle.sf_sym.specs.declared.atom.Atom.{Atom}
 use Rattle.sf_sym.specs.declared.atom.Atom.TheVariants.{Points, Ls, Tree}
 use Rattle.sf_sym.specs.declared.atom.Numbered.{Numbered}
@@ -109,9 +109,9 @@ pub record IsShaped (d : Setting) (goal : Goal) : Type 0 where
   pub state : StateFits d goal.state
   pub todo : TodoFits d goal.todo
 
--- IsGoalAfter: the goal comes after so many tags: it is the first one, or a row leaves it of one that comes a tag earlier
+-- IsGoalAfter: the goal comes after so many tags: it is the first one, or a rule leaves it of one that comes a tag earlier
 abbrev pub IsGoalAfter : Setting → (first : Goal) → ℕ → Goal → Type 0
 IsGoalAfter d first zero goal = goal ≡ first
 IsGoalAfter d first (suc n) goal =
     (before : Goal) × IsGoalAfter d first n before
-    × (tag : Tag) × (left : List Goal) × (row d before tag ≡ Some left) × Contains left goal
+    × (tag : Tag) × (left : List Goal) × Leaves d before tag left × Contains left goal

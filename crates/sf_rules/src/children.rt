@@ -5,6 +5,7 @@ ghost use Rattle.std.specs.Option.{option_map};
 ghost use Rattle.sf_precise.specs.Order.{IsOrdering};
 ghost use Rattle.sf_rules.specs.Checked.Children.{children_of, stack_of};
 ghost use Rattle.sf_rules.specs.Rows.Whole.{row, row_of};
+ghost use Rattle.sf_rules.specs.Rules.{HasNoRule, Leaves};
 ghost use Rattle.sf_rules.specs.Setting.{Setting, setting_of};
 ghost use Rattle.sf_rules.specs.Few.{has_numbers};
 ghost use Rattle.sf_rules.specs.declared.children.RuleFault.TheVariants.{NotARule};
@@ -54,8 +55,28 @@ impl From<AllocError> for RuleFault {
 }
 
 /// What a tag leaves of a goal, which is given up: nothing is copied where one goal is left.
-/// `NotARule` comes exactly where the tag has no row there.
+/// `NotARule` comes exactly where no rule of that tag is there; `row` and `no_row` say the same by
+/// the function that the code computes.
+#[tactic(auto, using(crate::proofs::RuleLaws::ok_leaves, crate::proofs::RuleLaws::err_leaves))]
 pub fn apply_row<'a>(
+    alloc: Global,
+    arranged: &'a Arranged,
+    goal: Goal<'a>,
+    tag: Tag,
+) -> Result<Children<'a>, RuleFault>
+    ghost d: { Setting }
+    requires ordered { IsOrdering d.ordered }
+    requires setting { d ≡ setting_of d.ordered arranged.now }
+    ensures leaves { IfOk result (λ left. Leaves d (goal_of goal.entry) tag (children_of left)) }
+    ensures no_rule { IfErr result (λ e. e ≡ NotARule → HasNoRule d (goal_of goal.entry) tag) }
+    ensures row { IfOk result (λ left. row d (goal_of goal.entry) tag ≡ Some (children_of left)) }
+    ensures no_row { IfErr result (λ e. e ≡ NotARule → row d (goal_of goal.entry) tag ≡ None) }
+{
+    children_by_row(alloc, arranged, goal, tag)
+}
+
+/// The same by the table as a function.
+fn children_by_row<'a>(
     alloc: Global,
     arranged: &'a Arranged,
     goal: Goal<'a>,

@@ -6,6 +6,7 @@ use Rattle.std.proofs.lemmas.Bool.{cases_lt}
 use Rattle.sf_base.specs.declared.ids.ProcId.{ProcId}
 use Rattle.sf_base.specs.declared.limits.TheConstants.{PROCEDURE_TAGS, FILE_TAGS}
 use Rattle.sf_core.specs.Program.Syntax.{Procedure}
+use Rattle.sf_rules.specs.Checked.Lemmas.RowRules.{row-leaves}
 use Rattle.sf_rules.specs.Rows.Whole.{row}
 use Rattle.sf_rules.specs.Setting.{Setting}
 use Rattle.sf_search.specs.Strategy.{Choice, chooses, stays, takes}
@@ -43,7 +44,7 @@ module _ (d : Setting) (first : Goal) (keeps : KeepsShape d first) where
       record {
         tags = tag ∷ rest.tags;
         outcome = rest.outcome;
-        chosen = (e, left.0, left.1, rest.chosen);
+        chosen = (e, left.0, row-leaves d g tag left.0 left.1, rest.chosen);
         within = subst (WithinLimit rest.outcome) (omega arith) rest.within;
       }
 

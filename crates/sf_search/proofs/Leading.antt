@@ -5,6 +5,7 @@ use Rattle.std.proofs.lemmas.List.{append-nil, reverse-append}
 use Rattle.std.proofs.lemmas.Option.{same_Some}
 use Rattle.std.specs.List.{slice_get}
 use Rattle.sf_rules.specs.Checked.Children.{stack_of}
+use Rattle.sf_rules.specs.Checked.Lemmas.RowRules.{row-leaves}
 use Rattle.sf_rules.specs.Rows.Whole.{row}
 use Rattle.sf_rules.specs.Setting.{Setting}
 use Rattle.sf_search.specs.Strategy.{chooses, takes}
@@ -22,7 +23,7 @@ pub leads_on : (d : Setting) (from gs : List Goal) (g : Goal) (tags : List Tag) 
     → Leads d from (left ++ gs) (tags ++ tag ∷ [])
 leads_on d from gs g tags tag left l c r =
     λ rest o h. subst (λ ts. Chosen d from ts o) (sym (append_assoc tags (tag ∷ []) rest))
-    (l (tag ∷ rest) o (c, left, r, h))
+    (l (tag ∷ rest) o (c, left, row-leaves d g tag left r, h))
 
 pub leads_end : (d : Setting) (from gs : List Goal) (tags : List Tag) (o : Outcome) → Leads d from gs tags
     → Chosen d gs [] o → Chosen d from tags o

@@ -3,7 +3,9 @@
 use Rattle.std.proofs.Common.{◌≡◌, ℕ, suc, ◌+◌, ◌≤◌, inl, inr, Some, List, [], ◌∷◌, ◌++◌, length, refl, sym, ap, ap₂, ◌∙◌, subst, arith}
 use Rattle.sf_base.specs.declared.limits.TheConstants.{PROCEDURE_TAGS}
 use Rattle.sf_core.specs.Program.Syntax.{Procedure}
+use Rattle.sf_rules.specs.Checked.Lemmas.RuleRows.{leaves-row}
 use Rattle.sf_rules.specs.Rows.Whole.{row}
+use Rattle.sf_rules.specs.Rules.{Leaves}
 use Rattle.sf_rules.specs.Setting.{Setting}
 use Rattle.sf_search.specs.Strategy.{Kind, chooses, stays, takes}
 use Rattle.sf_rules.specs.First.{first_goal}
@@ -57,7 +59,7 @@ module _ (d : Setting) where
 
   -- where a search stops no other one goes on
   stops-there : (n : ℕ) (g : Goal) (u : Tag) (us : List Tag) (left : List Goal) (o q : Outcome) → Stops g o
-      → chooses g ≡ takes u → row d g u ≡ Some left → WithinLimit o (n + 0)
+      → chooses g ≡ takes u → Leaves d g u left → WithinLimit o (n + 0)
       → WithinLimit q (n + suc (length us)) → ⊥
   stops-there n g u us left o q (stays_there k a e) c r l m = not-both g u k c a
   stops-there n g u us left o q (would_take t a e) c r l m =
@@ -78,7 +80,7 @@ module _ (d : Setting) where
       absurd (stops-there n g t ts c.1 q o (chosen-stops g gs q e) c.0 c.2 m l)
   chosen-once n (g ∷ gs) (t ∷ ts) (u ∷ us) o q c e l m =
       let same = same-tag g t u c.0 e.0 in
-      let rows : Some c.1 ≡ Some e.1 = sym c.2 ∙ ap (row d g) same ∙ e.2 in
+      let rows : Some c.1 ≡ Some e.1 = sym (leaves-row d g t c.1 c.2) ∙ ap (row d g) same ∙ leaves-row d g u e.1 e.2 in
       let goals : c.1 ≡ e.1 = cc in
       let other : Chosen d (c.1 ++ gs) us q = subst (λ (z : List Goal). Chosen d (z ++ gs) us q) (sym goals) e.3 in
       let rest = chosen-once (suc n) (c.1 ++ gs) ts us o q c.3 other (subst (WithinLimit o) (omega arith) l)

@@ -5,6 +5,8 @@ use Rattle.std.specs.List.{AllByRecursion, Contains}
 use Rattle.std.proofs.Common.{◌≡◌, ℕ, suc, ◌+◌, ◌≤◌, Some, List, [], ◌∷◌, ◌++◌, refl, sym, subst, inl, inr, arith}
 use Rattle.sf_base.proofs.Elements.{all_by-append, contains-cons}
 use Rattle.sf_base.specs.declared.limits.TheConstants.{PROCEDURE_TAGS}
+use Rattle.sf_rules.specs.Checked.Lemmas.RowRules.{row-leaves}
+use Rattle.sf_rules.specs.Checked.Lemmas.RuleRows.{leaves-row}
 use Rattle.sf_rules.specs.Rows.Whole.{row}
 use Rattle.sf_rules.specs.Setting.{Setting}
 use Rattle.sf_rules.specs.Shape.{IsGoalAfter}
@@ -38,7 +40,7 @@ module _ (d : Setting) (first : Goal) where
       each : (xs : List Goal) → ((x : Goal) → Contains xs x → Contains left x) → AllByRecursion (IsReached (m + 1)) xs
       each [] among = tt
       each (x ∷ xs) among = (
-        (suc a.0, omega (arith, a.1), (g, a.2, tag, left, r, among x ((contains-cons x xs x).1 (inl refl)))),
+        (suc a.0, omega (arith, a.1), (g, a.2, tag, left, row-leaves d g tag left r, among x ((contains-cons x xs x).1 (inl refl)))),
         each xs (λ y c. among y ((contains-cons x xs y).1 (inr c))),
       )
 
@@ -54,4 +56,6 @@ module _ (d : Setting) (first : Goal) where
       → chooses g ≡ takes tag → (left : List Goal) × (row d g tag ≡ Some left)
   unfolding TakenTagsHaveRows
   reached_row keeps m g tag l a c =
-      let shape = keeps a.0 g a.2 (omega (arith, a.1, l)) in taken_tags_have_rows d g tag shape.0 shape.1 c
+      let shape = keeps a.0 g a.2 (omega (arith, a.1, l)) in
+      let rule = taken_tags_have_rows d g tag shape.0 shape.1 c in
+      (rule.0, leaves-row d g tag rule.0 rule.1)

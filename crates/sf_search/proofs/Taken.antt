@@ -27,6 +27,7 @@ use Rattle.sf_rules.specs.Rows.Commands.{looked}
 use Rattle.sf_rules.specs.Rows.Loops.{unknown_in}
 use Rattle.sf_rules.specs.Rows.Regions.{entered, variables_from}
 use Rattle.sf_rules.specs.Rows.Take.{subtract_row}
+use Rattle.sf_rules.specs.Checked.Lemmas.RowRules.{row-leaves}
 use Rattle.sf_rules.specs.Rows.Whole.{row, row_of}
 use Rattle.sf_rules.specs.Setting.{Setting}
 use Rattle.sf_search.proofs.Found.{found-at, found-forced}
@@ -559,6 +560,7 @@ some-there (Some x) e = (x, refl)
 pub taken_tags_have_rows : TakenTagsHaveRows
 unfolding TakenTagsHaveRows
 taken_tags_have_rows d goal tag shape numbers e =
-    some-there (row d goal tag)
+    let there = some-there (row d goal tag)
     (ap (λ b. is_some (cond b (row_of d goal tag) None)) numbers
-    ∙ subst (Good (row_of d goal)) e (good-chooses d goal (ready-of d goal shape numbers)))
+    ∙ subst (Good (row_of d goal)) e (good-chooses d goal (ready-of d goal shape numbers))) in
+    (there.0, row-leaves d goal tag there.0 there.1)

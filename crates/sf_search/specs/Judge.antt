@@ -1,10 +1,11 @@
--- Judge: what the strategy comes to for a whole program, by the rows of the table.
--- Berdine, Calcagno, O'Hearn, "Smallfoot" (2005): proof search by symbolic execution, in this project's own profile.
-use Rattle.std.specs.Prelude.{◌≡◌, ℕ, suc, ◌+◌, ◌≤◌, ◌<◌, Some, List, [], ◌∷◌, ◌++◌, length, ◌⊎◌}
+-- Judge: what the strategy comes to for a whole program, by the rules.
+-- Berdine, Calcagno, O'Hearn, "Smallfoot" (2005): proof search by symbolic execution, in this
+-- project's own profile.
+use Rattle.std.specs.Prelude.{◌≡◌, ℕ, suc, ◌+◌, ◌≤◌, ◌<◌, List, [], ◌∷◌, ◌++◌, length, ◌⊎◌}
 use Rattle.sf_base.specs.declared.ids.ProcId.{ProcId}
 use Rattle.sf_base.specs.declared.limits.TheConstants.{PROCEDURE_TAGS, FILE_TAGS}
 use Rattle.sf_core.specs.Program.Syntax.{Procedure}
-use Rattle.sf_rules.specs.Rows.Whole.{row}
+use Rattle.sf_rules.specs.Rules.{Leaves}
 use Rattle.sf_rules.specs.Setting.{Setting}
 use Rattle.sf_search.specs.Strategy.{Kind, chooses, stays, takes}
 use Rattle.sf_rules.specs.First.{first_goal}
@@ -12,19 +13,22 @@ use Rattle.sf_sym.specs.declared.tag.Tag.{Tag}
 use Rattle.sf_sym.specs.declared.tag.Tag.TheVariants as t
 use Rattle.sf_sym.specs.Goal.{Goal}
 
--- how a search ends: no goal is left; it is stuck at a goal; or a goal would take more tags than a procedure may have
+-- how a search ends: no goal is left; it is stuck at a goal; or a goal would take more tags than a
+-- procedure may have
 pub data Outcome : Type 0 where
   proved : Outcome
   stuck : Goal → Kind → Outcome
   large : Outcome
 
--- the tags are those that the strategy takes from these goals on, the first goal first, up to that end
+-- the tags are those that the strategy takes from these goals on, the first goal first, up to that
+-- end
 abbrev pub Chosen : Setting → List Goal → List Tag → Outcome → Type 0
 Chosen d [] [] proved = Unit {0}
 Chosen d (g ∷ gs) [] (stuck h kind) = (h ≡ g) × (chooses g ≡ stays kind)
 Chosen d (g ∷ gs) [] large = (tag : Tag) × (chooses g ≡ takes tag)
 Chosen d (g ∷ gs) (tag ∷ tags) outcome =
-    (chooses g ≡ takes tag) × (left : List Goal) × (row d g tag ≡ Some left) × Chosen d (left ++ gs) tags outcome
+    (chooses g ≡ takes tag) × (left : List Goal) × Leaves d g tag left
+    × Chosen d (left ++ gs) tags outcome
 Chosen d _ _ _ = ⊥
 
 -- a search ends as too large exactly after as many tags as a procedure may have
@@ -38,7 +42,8 @@ pub record Search (d : Setting) (goal : Goal) (tags : List Tag) (outcome : Outco
   pub chosen : Chosen d (goal ∷ []) tags outcome
   pub within : WithinLimit outcome (length tags)
 
--- why a procedure isn't proved: its search is stuck at a goal, after so many tags; or it is too large, or the file is
+-- why a procedure isn't proved: its search is stuck at a goal, after so many tags; or it is too
+-- large, or the file is
 pub data Cause : Type 0 where
   stuck_at : Goal → Kind → (before : ℕ) → Cause
   too_large : Cause
@@ -53,25 +58,30 @@ abbrev pub with_prefix : List Tag → Verdict → Verdict
 with_prefix tags (proof others) = proof (tags ++ others)
 with_prefix tags (fails f why) = fails f why
 
--- after the search of procedure f, where the file isn't too large yet: the others are judged if it is proved
+-- after the search of procedure f, where the file isn't too large yet: the others are judged if it
+-- is proved
 abbrev pub Continues : (others : Verdict → Type 0) → (f : ℕ) → List Tag → Outcome → Verdict → Type 0
 Continues others f tags proved v =
     (w : Verdict) × others w × (v ≡ with_prefix (t.Procedure (record { 0 = f }) ∷ tags) w)
-Continues others f tags (stuck g kind) v = v ≡ fails (record { 0 = f }) (stuck_at g kind (length tags))
+Continues others f tags (stuck g kind) v =
+    v ≡ fails (record { 0 = f }) (stuck_at g kind (length tags))
 Continues others f tags large v = v ≡ fails (record { 0 = f }) too_large
 
--- the same where so many tags were used before: with more than a file may have it is too large, whatever its search
--- comes to
-abbrev pub JudgedAfter : (others : ℕ → Verdict → Type 0) → (spent f : ℕ) → List Tag → Outcome → Verdict → Type 0
+-- the same where so many tags were used before: with more than a file may have it is too large,
+-- whatever its search comes to
+abbrev pub JudgedAfter : (others : ℕ → Verdict → Type 0) → (spent f : ℕ) → List Tag → Outcome
+    → Verdict → Type 0
 JudgedAfter others spent f tags outcome v =
     ((spent + length tags ≤ FILE_TAGS) × Continues (others (spent + length tags)) f tags outcome v)
     ⊎ ((FILE_TAGS < spent + length tags) × (v ≡ fails (record { 0 = f }) too_large))
 
--- the verdict on these procedures, which are numbered from f on, where that many tags were used before
+-- the verdict on these procedures, which are numbered from f on, where that many tags were used
+-- before
 abbrev pub JudgeFrom : Setting → (spent f : ℕ) → List Procedure → Verdict → Type 0
 JudgeFrom d spent f [] v = v ≡ proof []
 JudgeFrom d spent f (x ∷ xs) v =
-    (tags : List Tag) × (outcome : Outcome) × Search d (first_goal d (record { 0 = f }) x) tags outcome
+    (tags : List Tag) × (outcome : Outcome)
+    × Search d (first_goal d (record { 0 = f }) x) tags outcome
     × JudgedAfter (λ n. JudgeFrom d n (suc f) xs) spent f tags outcome v
 
 -- Judge: the verdict on a program, procedure by procedure in file order

@@ -8,6 +8,7 @@ use Rattle.std.proofs.lemmas.Option.{none-some, option_and_then_some, same_Some}
 use Rattle.sf_core.specs.Program.Syntax.{Procedure}
 use Rattle.sf_rules.specs.First.{first_goal}
 use Rattle.sf_rules.specs.Proving.{Proof, Proofs, ProvesFrom, and, by, no_more, preorder, preorders}
+use Rattle.sf_rules.specs.Checked.Lemmas.RowRules.{row-leaves}
 use Rattle.sf_rules.specs.Rows.Whole.{row}
 use Rattle.sf_rules.specs.Setting.{Setting}
 use Rattle.sf_sym.specs.declared.tag.Tag.{Tag}
@@ -59,7 +60,7 @@ shown-next : (d : Setting) (goal : Goal) (goals left : List Goal) (tag : Tag) (t
     → row d goal tag ≡ Some left → Shown d (left ++ goals) tags → Shown d (goal ∷ goals) (tag ∷ tags)
 shown-next d goal goals left tag tags r s =
     let two = apart d left goals (left ++ goals) refl s.proofs in record {
-      proofs = and goal goals refl (by tag left r two.first) two.second;
+      proofs = and goal goals refl (by tag left (row-leaves d goal tag left r) two.first) two.second;
       same = ap (λ l. tag ∷ l) (two.same ∙ s.same);
     }
 

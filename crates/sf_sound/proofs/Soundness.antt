@@ -9,7 +9,8 @@ use Rattle.sf_core.specs.Program.Syntax.{Assertion, Procedure}
 use Rattle.sf_precise.specs.Checked.Laws.{DeterminedHasOrder, OrderKeepsForm, OrderKeepsMeaning, OrderedIsDetermined}
 use Rattle.sf_precise.specs.Order.{IsOrderOf, IsOrdering}
 use Rattle.sf_rules.specs.Checked.LawsOfShape.{FirstGoalsAreShaped, IsLeft, IsSetUp, RowsKeepShape}
-use Rattle.sf_rules.specs.Rows.Whole.{row}
+use Rattle.sf_rules.specs.Checked.Lemmas.RuleRows.{leaves-row}
+use Rattle.sf_rules.specs.Rules.{Leaves}
 use Rattle.sf_rules.specs.Setting.{Setting}
 use Rattle.sf_rules.specs.Shape.{IsShaped}
 use Rattle.sf_safe.specs.Checked.LocalSafe.{LocallySafeProgramsAreSound}
@@ -38,18 +39,19 @@ pub record Laws : Type 0 where
   pub order : DeterminedHasOrder
 
 module _ (laws : RowLaws) (keep : RowsKeepShape) (d : Setting) (up : IsSetUp d) where
-  -- the goals that a row leaves are shaped
-  left-shaped : (goal : Goal) (tag : Tag) (left : List Goal) → IsShaped d goal → row d goal tag ≡ Some left
+  -- the goals that a rule leaves are shaped
+  left-shaped : (goal : Goal) (tag : Tag) (left : List Goal) → IsShaped d goal → Leaves d goal tag left
       → AllByRecursion (IsLeft d goal.state) left
   unfolding RowsKeepShape
-  left-shaped goal tag left shaped row = keep d up goal tag left shaped row
+  left-shaped goal tag left shaped rule = keep d up goal tag left shaped rule
 
   -- a shaped goal that is proved claims what is to do
   mutual
     proof-claims : (goal : Goal) → IsShaped d goal → Proof d goal → Claim d goal
-    proof-claims goal shaped (by tag left row proofs) =
+    proof-claims goal shaped (by tag left rule proofs) =
         row-claims laws d goal left shaped.shape
-        (proofs-claim goal.state left (left-shaped goal tag left shaped row) proofs) tag row
+        (proofs-claim goal.state left (left-shaped goal tag left shaped rule) proofs) tag
+        (leaves-row d goal tag left rule)
 
     proofs-claim : (s : State) (goals : List Goal) → AllByRecursion (IsLeft d s) goals → Proofs d goals
         → AllByRecursion (Claim d) goals

@@ -1,10 +1,10 @@
 -- Laws of the search: a goal has one search and a program one verdict, whose tags prove it; and a tag that is taken has a
--- row.
--- Ordinary: the strategy and the rows are functions, and a search ends at its limit.
-use Rattle.std.specs.Prelude.{◌≡◌, true, List, Some}
+-- rule.
+-- Ordinary: the strategy is a function, as the rules say it, too, and a search ends at its limit.
+use Rattle.std.specs.Prelude.{◌≡◌, true, List}
 use Rattle.sf_rules.specs.Checked.LawsOfShape.{IsSetUp}
 use Rattle.sf_rules.specs.Few.{has_numbers}
-use Rattle.sf_rules.specs.Rows.Whole.{row}
+use Rattle.sf_rules.specs.Rules.{Leaves}
 use Rattle.sf_rules.specs.Setting.{Setting}
 use Rattle.sf_rules.specs.Shape.{IsShaped}
 use Rattle.sf_search.specs.Strategy.{chooses, takes}
@@ -36,7 +36,7 @@ VerdictsAreUnique = (d : Setting) (v w : Verdict) → Judge d v → Judge d w �
 unfoldable pub TakenTagsProve : Type 0
 TakenTagsProve = (d : Setting) (tags : List Tag) → Judge d (proof tags) → Proves d tags
 
--- a tag that the strategy takes has a row, at goals as programs have them where numbers suffice
+-- a tag that the strategy takes has a rule, at goals as programs have them where numbers suffice
 unfoldable pub TakenTagsHaveRows : Type 0
 TakenTagsHaveRows = (d : Setting) (goal : Goal) (tag : Tag) → IsShaped d goal → has_numbers goal.state ≡ true
-    → chooses goal ≡ takes tag → (left : List Goal) × (row d goal tag ≡ Some left)
+    → chooses goal ≡ takes tag → (left : List Goal) × Leaves d goal tag left

@@ -1,6 +1,7 @@
 use Rattle.std.proofs.Common.{◌≡◌, Some, take}
 use Rattle.sf_check.specs.Checked.Stands.{stand_of}
-use Rattle.sf_check.specs.Stand.{after, start}
+use Rattle.sf_check.specs.Checked.Taken.{after}
+use Rattle.sf_check.specs.Stand.{start}
 use Rattle.sf_check.proofs.proving.take_all.Given as goal
 
 -- the tags so far were taken, and led to this stand

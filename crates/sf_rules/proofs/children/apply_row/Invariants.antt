@@ -1,4 +1,4 @@
 use Rattle.sf_rules.proofs.children.apply_row.Given as goal
 
-abbrev pub ghost-row_of : goal.ghost-row_of
-ghost-row_of g a = g.d
+abbrev pub ghost-children_by_row : goal.ghost-children_by_row
+ghost-children_by_row g a = g.d
