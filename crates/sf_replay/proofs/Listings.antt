@@ -20,7 +20,7 @@ use Rattle.sf_core.specs.Machine.Next.{Next, does, leaves, returns, joins, nothi
 use Rattle.sf_core.specs.Program.Syntax.{Command, assign, look_up, mutate, new, dispose, if, while, call, fork, with}
 use Rattle.sf_machine.specs.Absent.{IsAtAbsent}
 use Rattle.sf_machine.specs.Accessing.{IsListed, thing_of}
-use Rattle.sf_machine.specs.Checked.Tasks.{first_slots}
+use Rattle.sf_frame.specs.Checked.Frames.{first_slots}
 use Rattle.sf_machine.specs.Paths.{paths_of}
 use Rattle.sf_machine.proofs.Enabling.{accesses_none, accesses_of}
 use Rattle.sf_machine.proofs.Notes.{room_more, room_none}
