@@ -127,6 +127,7 @@ module _ (l : ReplayLayers) (p : Program) (f : ProcId) (m n : Bool) (v w : Vars)
   -- the text of a schedule has one answer
   replays-text : (given text other : Text) (status code : ℕ) → ScheduleAnswer p f m v h given text status
       → ScheduleAnswer p f n w k given other code → (text ≡ other) × (status ≡ code)
+  unfolding fault-text
   replays-text given text other status code (no_schedule e r t s) (no_schedule q x u y) =
       (t ∙ ap schedule_refusal_text (some-once (schedule_refusal p.fields given) e q r x) ∙ sym u, s ∙ sym y)
   replays-text given text other status code (no_schedule e r t s) (no_event more number why g b u y) =

@@ -2,7 +2,7 @@ use Rattle.std.proofs.lemmas.Result.{IfOk-weaker}
 use Rattle.sf_base.proofs.Results.{ok-both}
 use Rattle.sf_cli.proofs.Complete.{answering-small, said-small}
 use Rattle.sf_cli.proofs.DemoAnswers.{demo-answering}
-use Rattle.sf_cli.specs.Answer.{OrderAnswer, answer}
+use Rattle.sf_cli.specs.Answer.{OrderAnswer, Reaches, answer}
 use Rattle.sf_words.specs.WordsOf.{order_as}
 use Rattle.sf_words.specs.declared.order.Order.{Order as CodeOrder}
 use Rattle.std.proofs.Common.{Some, inl, subst, sym}
@@ -46,3 +46,9 @@ returns-in-Demo-clause-said g c =
     (λ said k. answer (demo-answering c.in-Demo.procedures said.text.items said.status k)
     (subst (λ (o : CodeOrder). OrderAnswer (g.S.Shelf.files c.args.shelf.now) (Some (order_as o)) said.text.items
     said.status) (sym c.in-Demo.is) k)) c.demonstrate.ensures
+
+pub returns-in-Replay-clause-others : goal.returns-in-Replay-clause-others
+returns-in-Replay-clause-others g c other unreached =
+    c.replay_file.ensures.others other
+    (λ r. unreached (subst (λ (o : CodeOrder). Reaches (g.S.Shelf.files c.args.shelf.now) (Some (order_as o)) other)
+    (sym c.in-Replay.is) r))
