@@ -25,7 +25,7 @@ use examples::EXAMPLES;
 use files::{FILES, set};
 use proofs::{ACCEPTED, CALL_PROOFS, REFUSED, TEXTS};
 use rankings::{RANKED_FILES, RANKINGS};
-use replays::{REPLAYED_FILES, REPLAYS};
+use replays::REPLAYED_FILES;
 use sf_io::{MemShelf, MemSink, OpenGate};
 use std::alloc::Global;
 use std::process::Abort;
@@ -119,16 +119,7 @@ fn resources_are_ranked(rt: HostRuntime) -> Result<(), Fail> {
 
 #[test]
 fn schedules_are_replayed(rt: HostRuntime) -> Result<(), Fail> {
-    let alloc = rt.alloc();
-    for (file, entry, state, schedule, answer, status) in REPLAYS {
-        let mut shelf = MemShelf::new(alloc);
-        shelf.add("p.sf", file.as_bytes())?;
-        shelf.add("state", state.as_bytes())?;
-        shelf.add("schedule", schedule.as_bytes())?;
-        let words = ["replay", "p.sf", entry, "state", "schedule"];
-        says(&rt, alloc, &words, &mut shelf, (answer, status))?;
-    }
-    are_said(&rt, alloc, &REPLAYED_FILES)
+    are_said(&rt, rt.alloc(), &REPLAYED_FILES)
 }
 
 /// The status that goes with such an answer to a file.
