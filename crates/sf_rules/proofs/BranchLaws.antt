@@ -14,7 +14,7 @@ use Rattle.sf_core.specs.declared.assertion.Test.TheVariants.{True, Equal, Diffe
 use Rattle.sf_core.specs.declared.command.Expr.{Expr}
 use Rattle.sf_core.specs.Program.Syntax.{Block, done, then, if}
 use Rattle.sf_rules.proofs.CommandLaws.{beside-none, command-form, executed-one}
-use Rattle.sf_rules.specs.Checked.LawsOfCommands.{before_command, Executed, IsTestKnown, ThenFollowsTest, ElseFollowsTest}
+use Rattle.sf_rules.specs.Checked.LawsOfCommands.{before_command, Executed, ThenFollowsTest, ElseFollowsTest}
 use Rattle.sf_sym.specs.Formed.{ItemFormed}
 use Rattle.sf_sym.specs.Checked.Lemmas.Decided.{decided-false, decided-true}
 use Rattle.sf_sym.specs.Checked.Lemmas.Formed.{formed-run}
@@ -26,7 +26,7 @@ use Rattle.sf_sym.specs.Goal.{Item, Goal, one_goal, to_run}
 use Rattle.sf_sym.specs.Holds.{term_value}
 use Rattle.sf_sym.specs.HoldsIn.{HoldsIn}
 use Rattle.sf_sym.specs.Checked.Laws.{Follows, HoldsStill}
-use Rattle.sf_sym.specs.Ready.{IsKnown, value_at}
+use Rattle.sf_sym.specs.Ready.{HasTestValues, HasValue, IsIn, IsTestIn, is_listed, value_at}
 use Rattle.sf_sym.specs.Shape.{HasShape, IsBody}
 use Rattle.sf_sym.specs.State.{State, term}
 
@@ -43,30 +43,35 @@ run-all P (then c cs) rest a = (tt, run-all P cs rest a)
 
 module _ (w : ℕ → Value) (goal : Goal) (e : Var → Option Value) (free taken : Heap)
     (h : HoldsIn w goal e free taken) where
-  known : (x : Expr) → IsKnown goal.state.vars e x → term_value w (term goal.state.vars x) ≡ value_at e x
-  known x k = known-value w e goal.state.vars h.vars x k
+  known : (x : Expr) → IsIn (is_listed goal.state.vars) x → HasValue e x
+      → term_value w (term goal.state.vars x) ≡ value_at e x
+  known x l k = known-value w e goal.state.vars h.vars x l k
 
   -- a test is true exactly where it is true of its terms
-  test-known : (test : Test Expr) → IsTestKnown goal.state.vars e test
+  test-known : (test : Test Expr) → IsTestIn (is_listed goal.state.vars) test → HasTestValues e test
       → IsTrueOf (term_value w) (command_test (term goal.state.vars) test) ↔ IsTrueOf (value_at e) test
-  test-known True k = (λ i. i, λ i. i)
-  test-known (Equal x y) k =
-      (λ i. sym (known x k.0) ∙ i ∙ known y k.1, λ i. known x k.0 ∙ i ∙ sym (known y k.1))
-  test-known (Differ x y) k =
-      (λ n i. n (known x k.0 ∙ i ∙ sym (known y k.1)), λ n i. n (sym (known x k.0) ∙ i ∙ known y k.1))
+  test-known True l k = (λ i. i, λ i. i)
+  test-known (Equal x y) l k = (
+    λ i. sym (known x l.0 k.0) ∙ i ∙ known y l.1 k.1,
+    λ i. known x l.0 k.0 ∙ i ∙ sym (known y l.1 k.1),
+  )
+  test-known (Differ x y) l k = (
+    λ n i. n (known x l.0 k.0 ∙ i ∙ sym (known y l.1 k.1)),
+    λ n i. n (sym (known x l.0 k.0) ∙ i ∙ known y l.1 k.1),
+  )
 
   -- a test that is decided true is true
-  test-true : (test : Test Expr) → IsTestKnown goal.state.vars e test
+  test-true : (test : Test Expr) → IsTestIn (is_listed goal.state.vars) test → HasTestValues e test
       → is_true goal.state (command_test (term goal.state.vars) test) ≡ true → IsTrueOf (value_at e) test
-  test-true test k d =
-      (test-known test k).0 (decided-true w goal e free taken h (command_test (term goal.state.vars) test) d)
+  test-true test l k d =
+      (test-known test l k).0 (decided-true w goal e free taken h (command_test (term goal.state.vars) test) d)
 
   -- one that is decided false is false
-  test-false : (test : Test Expr) → IsTestKnown goal.state.vars e test
+  test-false : (test : Test Expr) → IsTestIn (is_listed goal.state.vars) test → HasTestValues e test
       → is_false goal.state (command_test (term goal.state.vars) test) ≡ true
       → IsTrueOf (value_at e) test → ⊥
-  test-false test k d i =
-      decided-false w goal e free taken h (command_test (term goal.state.vars) test) d ((test-known test k).1 i)
+  test-false test l k d i =
+      decided-false w goal e free taken h (command_test (term goal.state.vars) test) d ((test-known test l k).1 i)
 
 -- the goal that is left with the commands of a block
 module _ (s : State) (rest : List Item) (p : Place) (test : Test Expr) (this that c : Block)
@@ -102,11 +107,11 @@ module _ (s : State) (rest : List Item) (p : Place) (test : Test Expr) (this tha
   -- the row of a test that is decided so, where what its decision says is true of the values
   branch-executed : (left : List Goal) (decided : Bool) (Says : (Var → Option Value) → Type 0)
       → ((w : ℕ → Value) (e : Var → Option Value) (free taken : Heap)
-      → HoldsIn w (before_command s (if p test this that) rest) e free taken → IsTestKnown s.vars e test
+      → HoldsIn w (before_command s (if p test this that) rest) e free taken → HasTestValues e test
       → decided ≡ true → Says e)
       → cond decided (one_goal s (to_run c ++ rest)) None ≡ Some left
       → Executed (before_command s (if p test this that) rest) left
-      (λ w e free taken child. IsTestKnown s.vars e test
+      (λ w e free taken child. HasTestValues e test
       → Says e × HoldsStill w (before_command s (if p test this that) rest) e free taken child)
   branch-executed left false Says is row = absurd (cc)
   branch-executed left true Says is row =
@@ -119,11 +124,11 @@ unfolding ThenFollowsTest
 then_follows_test s rest left p test this that shape row =
     branch-executed s rest p test this that this shape left (is_true s (command_test (term s.vars) test))
     (λ e. IsTrueOf (value_at e) test)
-    (λ w e free taken h k d. test-true w (before_command s (if p test this that) rest) e free taken h test k d) row
+    (λ w e free taken h k d. test-true w (before_command s (if p test this that) rest) e free taken h test shape.reads k d) row
 
 pub else_follows_test : ElseFollowsTest
 unfolding ElseFollowsTest
 else_follows_test s rest left p test this that shape row =
     branch-executed s rest p test this that that shape left (is_false s (command_test (term s.vars) test))
     (λ e. IsTrueOf (value_at e) test → ⊥)
-    (λ w e free taken h k d. test-false w (before_command s (if p test this that) rest) e free taken h test k d) row
+    (λ w e free taken h k d. test-false w (before_command s (if p test this that) rest) e free taken h test shape.reads k d) row

@@ -37,7 +37,7 @@ use Rattle.sf_sym.specs.Goal.{Item, run, add, take, gave, head, again, exit, ret
 use Rattle.sf_sym.specs.Holds.{term_value, AtomsHold, AddsHold}
 use Rattle.sf_sym.specs.HoldsIn.{HoldsIn}
 use Rattle.sf_sym.specs.Checked.Laws.{Follows, HoldsStill}
-use Rattle.sf_sym.specs.Ready.{AreInOrder, HasOrder, IsKnown, value_at, with_variable}
+use Rattle.sf_sym.specs.Ready.{AreInOrder, HasOrder, HasValue, IsIn, is_listed, value_at, with_variable}
 use Rattle.sf_sym.specs.Shape.{HasShape, IsBody}
 use Rattle.sf_sym.specs.State.{State, term, with_symbols}
 use Rattle.sf_sym.specs.Variables.{set_var}
@@ -88,7 +88,7 @@ record Out (w : ℕ → Value) (s : State) (e : Var → Option Value) (free : He
   has : HasFields (term_value w) fields here
   beside : AtomsHold w s.links (without s.atoms a) others
   there : free location ≡ Some here
-  finds : IsKnown s.vars e root → Finds (value_at e) free root location here
+  finds : IsIn (is_listed s.vars) root → HasValue e root → Finds (value_at e) free root location here
 
 cell-out : (w : ℕ → Value) (s : State) (c : Command) (rest : List Item) (e : Var → Option Value)
     (free taken : Heap) (a : ℕ) (root : Expr) (fields : List (FieldId × Term))
@@ -111,14 +111,15 @@ cell-out w s c rest e free taken a root fields h is_there =
       has = has;
       beside = o.second;
       there = there;
-      finds = λ known. record { is = sym (known-value w e s.vars h.vars root known) ∙ is; there = there };
+      finds = λ listed known. record { is = sym (known-value w e s.vars h.vars root listed known) ∙ is; there = there };
     }
 
 -- the event finds that cell, so what is said of what it finds is said of this one
 found-cell : {w : ℕ → Value} {s : State} {e : Var → Option Value} {free : Heap} {a : ℕ} {root : Expr}
     {fields : List (FieldId × Term)} {Then : ℕ → Cell → Type 0} (o : Out w s e free a root fields)
-    → IsKnown s.vars e root → Then o.location o.here → FindsCell e free root Then
-found-cell o known then = record { location = o.location; cell = o.here; finds = o.finds known; follows = then }
+    → IsIn (is_listed s.vars) root → HasValue e root → Then o.location o.here → FindsCell e free root Then
+found-cell o listed known then =
+    record { location = o.location; cell = o.here; finds = o.finds listed known; follows = then }
 
 -- Of a command whose goal has the same symbols after it
 module _ (s : State) (c : Command) (rest : List Item) where
@@ -207,7 +208,7 @@ assign_follows_event s rest left p x value shape row =
     b.state.atoms)
     (λ w e free taken h known.
     set-holds s c rest w e free taken (command-form s c rest shape).0 h x.var (value_at e value) t shape.vars
-    (sym (known-value w e s.vars h.vars value known)))
+    (sym (known-value w e s.vars h.vars value shape.reads known)))
 
 -- DISPOSE
 
@@ -218,7 +219,7 @@ dispose_follows_event s rest left p root a shape row = go (cell_at s.atoms a (te
     go : (o : Option (List (FieldId × Term))) → cell_at s.atoms a (term s.vars root) ≡ o
         → option_and_then (λ fields. one_goal (record s { atoms = without s.atoms a }) rest) o ≡ Some left
         → Executed (before_command s (dispose p root) rest) left
-        (λ w e free taken child. IsKnown s.vars e root → FindsCell e free root
+        (λ w e free taken child. HasValue e root → FindsCell e free root
         (λ location cell. HoldsStill w (before_command s (dispose p root) rest) e
         (heap_with location None free) taken child))
     go None found e = absurd (cc)
@@ -233,7 +234,7 @@ dispose_follows_event s rest left p root a shape row = go (cell_at s.atoms a (te
         let o = cell-out w s c rest e free taken a root fields h found in
         let after = cell-change_left o.location o.here None o.splits o.one.here in
         let gone = splits-of_empty_left (one-remove_cell o.one) after in
-        found-cell o known
+        found-cell o shape.reads known
         (change-holds s c rest w e free taken (command-form s c rest shape).0 h o.location o.here None atoms o.there
         (subst (AtomsHold w s.links atoms) (sym gone) o.beside)))
 
@@ -252,7 +253,7 @@ mutate_follows_event s rest left p root field value a shape row =
         }) o)
         ≡ Some left
         → Executed (before_command s (mutate p root field value) rest) left
-        (λ w e free taken child. IsKnown s.vars e root → IsKnown s.vars e value → FindsCell e free root
+        (λ w e free taken child. HasValue e root → HasValue e value → FindsCell e free root
         (λ location cell. HoldsStill w (before_command s (mutate p root field value) rest) e
         (heap_with location (Some (put_field cell field.0 (value_at e value))) free) taken child))
     go None found e = absurd (cc)
@@ -272,11 +273,11 @@ mutate_follows_event s rest left p root field value a shape row =
         )))
         (λ w e free taken h known also_known.
         let o = cell-out w s c rest e free taken a root fields h found in
-        let is = known-value w e s.vars h.vars value also_known in
+        let is = known-value w e s.vars h.vars value shape.reads.1 also_known in
         let cell : Cell = put_field o.here field.0 (value_at e value) in
         let fits = subst (λ z. HasFields (term_value w) (put_term field u fields) (put_field o.here field.0 z)) is
         (put-written (term_value w) field u fields o.here (cell-order s.atoms a t fields shape.fields at) o.has) in
-        found-cell o known
+        found-cell o shape.reads.0 known
         (change-holds s c rest w e free taken (command-form s c rest shape).0 h o.location o.here (Some cell) atoms o.there
         (atoms-in_place w s.links s.atoms a (Points t fields) t (put_term field u fields)
         (heap_with o.location (Some cell) free) at
@@ -338,7 +339,7 @@ new_follows_event s rest left p x shape row =
 -- what the law says of the goals that are left
 abbrev Looks : State → List Item → Place → Occurrence → Expr → FieldId → List Goal → Type 0
 Looks s rest p x root field left = Executed (before_command s (look_up p x root field) rest) left
-    (λ w e free taken child. IsKnown s.vars e root → FindsCell e free root
+    (λ w e free taken child. HasValue e root → FindsCell e free root
     (λ location cell. HoldsStill w (before_command s (look_up p x root field) rest)
     (with_variable x.var (cell field.0) e) free taken child))
 
@@ -362,7 +363,7 @@ look-known s rest left p x root field a shape fields found u is e =
     b.state.atoms)
     (λ w e free taken h known.
     let o = cell-out w s c rest e free taken a root fields h found in
-    found-cell o known
+    found-cell o shape.reads known
     (set-holds s c rest w e free taken (command-form s c rest shape).0 h x.var (o.here field.0) u shape.vars
     (field-value (term_value w) fields field u o.here is o.has)))
 
@@ -413,7 +414,7 @@ look-fresh s rest left p x root field a shape fields found e =
     let same : SameBelow n v w = λ m i. value-below n y w m i in
     let is : v n ≡ y = value-here n y w in
     let stays = agree w v goal b same e free taken h in
-    found-cell o known
+    found-cell o shape.reads known
     (record {
       values = v;
       same = same;

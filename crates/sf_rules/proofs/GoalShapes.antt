@@ -17,7 +17,9 @@ use Rattle.sf_rules.proofs.FirstShapes.{first-atom, first-shaped, first-symbols}
 use Rattle.sf_rules.proofs.Fits.{IsFitting, items-fit, todo-fits}
 use Rattle.sf_rules.proofs.FormedAnnotations.{annotation-fits}
 use Rattle.sf_rules.proofs.FormedBodies.{ForksApart, block-fits}
+use Rattle.sf_rules.proofs.BodyVariables.{first-variables}
 use Rattle.sf_rules.proofs.KeptShapes.{AllOrderly, IsOrderly, RowLaws, first-orderly, rows-orderly}
+use Rattle.sf_rules.proofs.KeptVariables.{AllHave, next-reads, rows-have}
 use Rattle.sf_rules.proofs.ShapedGoals.{AllKeep}
 use Rattle.sf_rules.proofs.ShapedRows.{ProgramFits, cases-keep}
 use Rattle.sf_rules.specs.Checked.LawsOfShape.{FirstGoalsAreShaped, FirstGoalsAreSmall, GoalsAreShaped, IsGrown, IsLeft, IsSetUp, RowsKeepShape}
@@ -25,6 +27,7 @@ use Rattle.sf_rules.specs.Checked.RowCases.{RowsHaveCases}
 use Rattle.sf_rules.specs.First.{first_goal}
 use Rattle.sf_rules.specs.Checked.Lemmas.RuleRows.{leaves-row}
 use Rattle.sf_rules.specs.Rules.{Leaves}
+use Rattle.sf_rules.specs.HasVariables.{HasVariables}
 use Rattle.sf_rules.specs.Setting.{Setting}
 use Rattle.sf_rules.specs.Shape.{AnnotationFits, BlockFits, IsGoalAfter, IsShaped}
 use Rattle.sf_sym.specs.declared.tag.Tag.{Tag}
@@ -51,17 +54,20 @@ shaped-fitting d goal h = record {
       (subst (λ k. AllByRecursion (ItemFormed k) goal.todo) h.state.links h.shape.formed) h.todo;
 }
 
-fitting-shaped : (d : Setting) (goal : Goal) → IsFitting d goal → IsOrderly goal → IsShaped d goal
-fitting-shaped d goal h o = record {
+fitting-shaped : (d : Setting) (goal : Goal) → IsFitting d goal → IsOrderly goal → HasVariables d.program goal
+    → IsShaped d goal
+fitting-shaped d goal h o v = record {
   shape = record {
     below = h.below;
     vars = o.ordered.vars;
     fields = o.ordered.fields;
     formed = o.formed;
     form = o.form;
+    reads = next-reads d.program goal v;
   };
   state = h.state;
   todo = todo-fits d goal.todo h.todo;
+  variables = v;
 }
 
 -- WHAT A PROGRAM THAT IS SET UP has
@@ -112,7 +118,7 @@ module _ (laws : LawsBelow) (d : Setting) (up : IsSetUp d) where
         let fits = formed-program.procedures f.0 g there in
         fitting-shaped d (first_goal d f g)
         (first-shaped d formed up.setting.sets laws.held f g there formed-program formed-body)
-        (first-orderly d f g fits.0)
+        (first-orderly d f g fits.0) (first-variables d up laws.breaches f g there)
 
   -- the goals that a row leaves
   left-is : (laws_of_rows : RowLaws) (goal : Goal) (tag : Tag) (left : List Goal) → IsShaped d goal
@@ -121,14 +127,14 @@ module _ (laws : LawsBelow) (d : Setting) (up : IsSetUp d) where
   left-is laws_of_rows goal tag left h e =
       let cases = laws_of_rows.cases d goal tag left (leaves-row d goal tag left e) in
       both left (cases-keep d formed-program goal left (shaped-fitting d goal h) cases)
-      (rows-orderly laws_of_rows d formed-program goal left h cases)
+      (rows-orderly laws_of_rows d formed-program goal left h cases) (rows-have laws_of_rows d goal left h cases)
     where
-      both : (left : List Goal) → AllKeep d goal.state left → AllOrderly left
+      both : (left : List Goal) → AllKeep d goal.state left → AllOrderly left → AllHave d.program left
           → AllByRecursion (IsLeft d goal.state) left
-      both [] k o = tt
-      both (g ∷ gs) k o = (
-        record { shaped = fitting-shaped d g k.0.shaped o.0; symbols = k.0.symbols; atoms = k.0.atoms },
-        both gs k.1 o.1,
+      both [] k o v = tt
+      both (g ∷ gs) k o v = (
+        record { shaped = fitting-shaped d g k.0.shaped o.0 v.0; symbols = k.0.symbols; atoms = k.0.atoms },
+        both gs k.1 o.1 v.1,
       )
 
 -- THE LAWS

@@ -30,4 +30,6 @@ pub mod FormedAnnotations
 pub mod FormedBodies
 pub mod FirstShapes
 pub mod KeptShapes
+pub mod KeptVariables
+pub mod BodyVariables
 pub mod GoalShapes

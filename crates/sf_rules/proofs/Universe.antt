@@ -94,7 +94,7 @@ own-length : (count from : ℕ) → length (own_from from count) ≡ count
 own-length zero from = refl
 own-length (suc count) from = ap suc (own-length count (suc from))
 
-shared-has : (r : ResId) (names : List (List ℕ)) (from n : ℕ) → n < length names
+pub shared-has : (r : ResId) (names : List (List ℕ)) (from n : ℕ) → n < length names
     → Contains (shared_from r from names) (Shared r (from + n))
 shared-has r [] from n l = absurd (omega (arith, l))
 shared-has r (x ∷ xs) from zero l =

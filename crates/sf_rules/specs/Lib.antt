@@ -1,5 +1,6 @@
 pub mod Few
 pub mod First
+pub mod HasVariables
 pub mod Proving
 pub mod Setting
 pub mod Shape

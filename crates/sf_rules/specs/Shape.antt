@@ -10,6 +10,7 @@ use Rattle.sf_core.specs.declared.fields.Links.{Links}
 use Rattle.sf_core.specs.Program.Syntax.{Assertion, Block, done, then, Call, Command, assign, look_up, mutate, new, dispose, if, while, call, fork, with, Resource}
 use Rattle.sf_rules.specs.declared.few.TheConstants.{TOO_MANY}
 use Rattle.sf_rules.specs.First.{links_of}
+use Rattle.sf_rules.specs.HasVariables.{HasVariables}
 use Rattle.sf_rules.specs.Setting.{Setting}
 use Rattle.sf_rules.specs.Words.{pending_assertion}
 use Rattle.sf_rules.specs.Rules.{Leaves}
@@ -102,12 +103,13 @@ TodoFits d (exit p r ∷ rest) = (is_some (slice_get d.program.resources r.0) �
 TodoFits d (return p owed ∷ rest) = AllByRecursion (MayStand (links_of d.program)) owed
 TodoFits d (end p ∷ rest) = Unit {0}
 
--- IsShaped: the goal has the shape that the laws of rows ask of a goal alone, and its state and what it has to do fit
--- the program
+-- IsShaped: the goal has the shape that the laws of rows ask of a goal alone, its state and what it has to do fit the
+-- program, and it has the variables that this reads
 pub record IsShaped (d : Setting) (goal : Goal) : Type 0 where
   pub shape : HasShape goal
   pub state : StateFits d goal.state
   pub todo : TodoFits d goal.todo
+  pub variables : HasVariables d.program goal
 
 -- IsGoalAfter: the goal comes after so many tags: it is the first one, or a rule leaves it of one that comes a tag earlier
 abbrev pub IsGoalAfter : Setting → (first : Goal) → ℕ → Goal → Type 0

@@ -60,7 +60,7 @@ use Rattle.sf_sound.proofs.States.{nil-vars, renewed, renewed-vars, state-fresh,
 use Rattle.sf_sound.proofs.Words.{adding-does, adding-suits, body-holds}
 use Rattle.sf_sym.specs.Checked.Lemmas.Adding.{adding-holds}
 use Rattle.sf_sound.specs.Checked.Claims.{SatisfiesEach}
-use Rattle.sf_rules.specs.Checked.Lemmas.FirstVariables.{nils-all, symbols-all, symbols-order}
+use Rattle.sf_rules.specs.Checked.Lemmas.FirstVariables.{nils-all, own-listed, symbols-all, symbols-order}
 use Rattle.sf_rules.specs.First.{first_goal, first_state_of, links_of, nils, own_vars, symbols, variables_of, with_held}
 use Rattle.sf_sound.specs.Checked.Suits.{Claim, Domain, HasDomain, IsListed, IsPassed, IsPlain, Suits, is_of}
 use Rattle.sf_sym.specs.Below.{AreBelow, IsBelow}
@@ -73,37 +73,6 @@ use Rattle.sf_sym.specs.Checked.Lemmas.Below.{below-symbol}
 use Rattle.sf_sym.specs.Pending.{Pending}
 use Rattle.sf_sym.specs.Ready.{AreInOrder, is_listed}
 use Rattle.sf_sym.specs.State.{State, first_state, term}
-
--- listed
-nils-listed : (from count i : ℕ) → from ≤ i → i < from + count → is_listed (nils from count) (Own i) ≡ true
-nils-listed from zero i a b = absurd (omega (arith, a, b))
-nils-listed from (suc count) i a b =
-    go (same_var (Own from) (Own i)) refl (λ n. nils-listed (suc from) count i n (omega (arith, b)))
-  where
-    go : (c : Bool) → same_var (Own from) (Own i) ≡ c
-        → (suc from ≤ i → is_listed (nils (suc from) count) (Own i) ≡ true)
-        → same_var (Own from) (Own i) || is_listed (nils (suc from) count) (Own i) ≡ true
-    go true e r = or_left (same_var (Own from) (Own i)) (is_listed (nils (suc from) count) (Own i)) e
-    go false e r = or_right (same_var (Own from) (Own i)) (is_listed (nils (suc from) count) (Own i))
-        (r (let n : suc from ≤ i = grind (arith, nat_tests) in n))
-
-own-listed : (from count rest i : ℕ) → from ≤ i → i < from + count + rest
-    → is_listed (symbols from count ++ nils (from + count) rest) (Own i) ≡ true
-own-listed from zero rest i a b = nils-listed (from + 0) rest i (omega (arith, a)) (omega (arith, b))
-own-listed from (suc count) rest i a b =
-    go (same_var (Own from) (Own i)) refl (λ n. subst
-    (λ k. is_listed (symbols (suc from) count ++ nils k rest) (Own i) ≡ true)
-    (let e : suc from + count ≡ from + suc count = omega arith in e)
-    (own-listed (suc from) count rest i n (omega (arith, b))))
-  where
-    go : (c : Bool) → same_var (Own from) (Own i) ≡ c
-        → (suc from ≤ i → is_listed (symbols (suc from) count ++ nils (from + suc count) rest) (Own i) ≡ true)
-        → same_var (Own from) (Own i) || is_listed (symbols (suc from) count ++ nils (from + suc count) rest) (Own i)
-        ≡ true
-    go true e r = or_left (same_var (Own from) (Own i)) _ e
-    go false e r = or_right (same_var (Own from) (Own i))
-        (is_listed (symbols (suc from) count ++ nils (from + suc count) rest) (Own i))
-        (r (let n : suc from ≤ i = grind (arith, nat_tests) in n))
 
 -- WHAT A BODY SETS it is one that it may set, or a resource's
 references-settable : (p : Program) (g : Procedure) (refs : List Occurrence) (x : Var)

@@ -14,7 +14,7 @@ use Rattle.sf_core.specs.declared.command.Expr.{Expr}
 use Rattle.sf_core.specs.declared.command.Occurrence.{Occurrence}
 use Rattle.sf_core.specs.Machine.Config.{items}
 use Rattle.sf_core.specs.Program.Syntax.{Block, Command, assign, look_up, mutate, new, dispose, if}
-use Rattle.sf_rules.specs.Checked.LawsOfCommands.{before_command, Executed, IsTestKnown, AssignFollowsEvent, LookFollowsEvent, MutateFollowsEvent, NewFollowsEvent, DisposeFollowsEvent, ThenFollowsTest, ElseFollowsTest}
+use Rattle.sf_rules.specs.Checked.LawsOfCommands.{before_command, Executed, AssignFollowsEvent, LookFollowsEvent, MutateFollowsEvent, NewFollowsEvent, DisposeFollowsEvent, ThenFollowsTest, ElseFollowsTest}
 use Rattle.sf_rules.specs.Rows.Branches.{branch_row, then_row, else_row}
 use Rattle.sf_rules.specs.Rows.Commands.{assign_row, look_row, mutate_row, new_row, dispose_row}
 use Rattle.sf_rules.specs.Setting.{Setting}
@@ -22,13 +22,13 @@ use Rattle.sf_safe.specs.Checked.Local.{Local, look, put_local, put_variable}
 use Rattle.sf_safe.specs.Checked.LocalSafe.{LocalSafe}
 use Rattle.sf_rules.specs.Checked.Lemmas.Forms.{body-run, form-command}
 use Rattle.sf_rules.specs.Checked.Lemmas.CommandChildren.{IsOrdered, Stays, assign-stays, branch-stays, dispose-stays, look-stays, mutate-stays, new-stays}
-use Rattle.sf_sound.proofs.Standing.{body-does, domain-has, domain-in, domain-put, domain-test, known-expr, known-test, owed-run, steps-run, suits-run}
+use Rattle.sf_sound.proofs.Standing.{body-does, domain-has, domain-in, domain-put, domain-test, owed-run, steps-run, suits-run, value-expr, value-test}
 use Rattle.sf_sound.specs.Checked.Claims.{Does, Owed, steps}
 use Rattle.sf_sound.specs.Checked.Suits.{Claim, Domain, HasDomain, Suits, TodoSuits}
 use Rattle.sf_sym.specs.Goal.{Item, run, Goal, to_run}
 use Rattle.sf_sym.specs.HoldsIn.{HoldsIn}
 use Rattle.sf_sym.specs.Checked.Laws.{HoldsStill, SomeOf}
-use Rattle.sf_sym.specs.Ready.{value_at}
+use Rattle.sf_sym.specs.Ready.{HasTestValues, value_at}
 use Rattle.sf_sym.specs.State.{State}
 use Rattle.sf_sym.specs.Shape.{HasShape, IsBody}
 
@@ -78,7 +78,7 @@ module _ (d : Setting) (s : State) (rest : List Item) (left : List Goal) (claims
       let r = law s rest left p x e shape row in
       let m = pick _ _ _ _ left (r.after w l.values l.cells taken holds) r.follow
       (assign-stays s rest left p x e (ordered c shape) row) claims in
-      let after = m.one (known-expr D l has s.vars u.listed e u.todo.0.1) in (
+      let after = m.one (value-expr D l has e u.todo.0.1) in (
         domain-has D l has x.var u.todo.0.0,
         domain-in D l has e u.todo.0.1,
         goes-on d D s c rest rest m.goal u m.second (form-command s c rest shape.form).0 u.todo.1 n
@@ -96,7 +96,7 @@ module _ (d : Setting) (s : State) (rest : List Item) (left : List Goal) (claims
       let r = law s rest left p x e f a shape row in
       let m = pick _ _ _ _ left (r.after w l.values l.cells taken holds) r.follow
       (look-stays s rest left p x e f a (ordered c shape) row) claims in
-      let found = m.one (known-expr D l has s.vars u.listed e u.todo.0.1) in
+      let found = m.one (value-expr D l has e u.todo.0.1) in
       let after = found.follows in (
         domain-has D l has x.var u.todo.0.0,
         record {
@@ -120,8 +120,8 @@ module _ (d : Setting) (s : State) (rest : List Item) (left : List Goal) (claims
       let r = law s rest left p e f v a shape row in
       let m = pick _ _ _ _ left (r.after w l.values l.cells taken holds) r.follow
       (mutate-stays s rest left p e f v a (ordered c shape) row) claims in
-      let found = m.one (known-expr D l has s.vars u.listed e u.todo.0.0)
-      (known-expr D l has s.vars u.listed v u.todo.0.1) in
+      let found = m.one (value-expr D l has e u.todo.0.0)
+      (value-expr D l has v u.todo.0.1) in
       let after = found.follows in (
         domain-in D l has v u.todo.0.1,
         record {
@@ -145,7 +145,7 @@ module _ (d : Setting) (s : State) (rest : List Item) (left : List Goal) (claims
       let r = law s rest left p e a shape row in
       let m = pick _ _ _ _ left (r.after w l.values l.cells taken holds) r.follow
       (dispose-stays s rest left p e a (ordered c shape) row) claims in
-      let found = m.one (known-expr D l has s.vars u.listed e u.todo.0) in
+      let found = m.one (value-expr D l has e u.todo.0) in
       let after = found.follows in (
         record {
           location = found.location;
@@ -192,7 +192,7 @@ module _ (d : Setting) (s : State) (rest : List Item) (left : List Goal) (claims
   branch-goes : (so : Bool) (Says : (Var → Option Value) → Type 0) (p : Place) (t : Test Expr) (this that : Block)
       → (HasShape (before_command s (if p t this that) rest)
       → Executed (before_command s (if p t this that) rest) left
-      (λ w e free taken child. IsTestKnown s.vars e t
+      (λ w e free taken child. HasTestValues e t
       → Says e × HoldsStill w (before_command s (if p t this that) rest) e free taken child))
       → branch_row so s (run (if p t this that) ∷ rest) ≡ Some left
       → HasShape (before_command s (if p t this that) rest) → (n : ℕ) (w : ℕ → Value) (D : Domain) (l : Local) (taken : Heap)
@@ -205,7 +205,7 @@ module _ (d : Setting) (s : State) (rest : List Item) (left : List Goal) (claims
       let r = law shape in
       let m = pick _ _ _ _ left (r.after w l.values l.cells taken holds) r.follow
       (branch-stays so s rest left p t this that (ordered c shape) row) claims in
-      let (is, after) = m.one (known-test D l has s.vars u.listed t u.todo.0.0) in (
+      let (is, after) = m.one (value-test D l has t u.todo.0.0) in (
         is,
         branch-on D n after.values l taken c (cond so this that) m.goal u shape m.second suits m.third has
             after.holds,

@@ -1,5 +1,5 @@
--- A goal that suits a frame: what its form says of what is to do, and which variables are known.
--- Names: `body-LAW` of commands up to an end, `domain-LAW` of what a frame has, `known-LAW` of expressions and tests.
+-- A goal that suits a frame: what its form says of what is to do, and which variables have values.
+-- Names: `body-LAW` of commands up to an end, `domain-LAW` of what a frame has, `value-LAW` of expressions and tests.
 use Rattle.std.specs.Prelude.{is_some}
 use Rattle.std.proofs.Common.{◌≡◌, ℕ, Bool, true, false, cond, Some, List, [], ◌∷◌, ◌++◌, refl, sym, ap, ◌∙◌}
 use Rattle.sf_base.proofs.Variables.{same_var-decides}
@@ -12,16 +12,14 @@ use Rattle.sf_core.specs.declared.command.Expr.{Expr}
 use Rattle.sf_core.specs.declared.command.Expr.TheVariants.{Var as Variable, Nil, Int}
 use Rattle.sf_core.specs.Machine.Config.{command, items}
 use Rattle.sf_core.specs.Program.Syntax.{Block, done, then, Program}
-use Rattle.sf_rules.specs.Checked.LawsOfCommands.{IsTestKnown}
 use Rattle.sf_rules.specs.Setting.{Setting}
 use Rattle.sf_safe.specs.Checked.Local.{HasIn, HasInTest, HasVar, Local, put_variable}
 use Rattle.sf_safe.specs.Checked.LocalSafe.{LocalSafe}
 use Rattle.sf_sound.proofs.Keeping.{Kept, nothing_gone, nothing_lost, some-has}
 use Rattle.sf_sound.specs.Checked.Claims.{Does, Owed, steps}
 use Rattle.sf_sound.specs.Checked.Suits.{BlockSuits, Domain, HasDomain, Reads, ReadsTest, TodoSuits}
-use Rattle.sf_sym.specs.declared.term.Term.{Term}
 use Rattle.sf_sym.specs.Goal.{Item, run, add, take, gave, head, again, exit, return, end, to_run}
-use Rattle.sf_sym.specs.Ready.{IsKnown, is_listed}
+use Rattle.sf_sym.specs.Ready.{HasTestValues, HasValue}
 use Rattle.sf_sym.specs.Shape.{IsBody}
 
 -- THE FORM
@@ -88,15 +86,14 @@ domain-test D l h True r = tt
 domain-test D l h (Equal x y) r = (domain-in D l h x r.0, domain-in D l h y r.1)
 domain-test D l h (Differ x y) r = (domain-in D l h x r.0, domain-in D l h y r.1)
 
--- WHAT IS KNOWN
-module _ (D : Domain) (l : Local) (h : HasDomain D l) (vars : List (Var × Term))
-    (listed : (x : Var) → D.has x ≡ true → is_listed vars x ≡ true) where
-  pub known-expr : (e : Expr) → Reads D e → IsKnown vars l.values e
-  known-expr (Variable x) r = (listed x.var r, h.variables x.var ∙ r)
-  known-expr Nil r = tt
-  known-expr (Int i) r = tt
+-- WHAT HAS A VALUE
+module _ (D : Domain) (l : Local) (h : HasDomain D l) where
+  pub value-expr : (e : Expr) → Reads D e → HasValue l.values e
+  value-expr (Variable x) r = h.variables x.var ∙ r
+  value-expr Nil r = tt
+  value-expr (Int i) r = tt
 
-  pub known-test : (t : Test Expr) → ReadsTest D t → IsTestKnown vars l.values t
-  known-test True r = tt
-  known-test (Equal x y) r = (known-expr x r.0, known-expr y r.1)
-  known-test (Differ x y) r = (known-expr x r.0, known-expr y r.1)
+  pub value-test : (t : Test Expr) → ReadsTest D t → HasTestValues l.values t
+  value-test True r = tt
+  value-test (Equal x y) r = (value-expr x r.0, value-expr y r.1)
+  value-test (Differ x y) r = (value-expr x r.0, value-expr y r.1)

@@ -34,7 +34,7 @@ pub terms-values : (d : Setting) (D : Domain) (s : State) → IsListed D s → (
     → HasDomain D l → AllByRecursion (Agrees w l.values) s.vars
     → HaveValues (λ x. D.has x ≡ true) w (term s.vars) (value_in l)
 terms-values d D s t w l h a (Variable x) i =
-    known-value w l.values s.vars a (Variable x) (t x.var i, h.variables x.var ∙ i)
+    known-value w l.values s.vars a (Variable x) (t x.var i) (h.variables x.var ∙ i)
 terms-values d D s t w l h a Nil i = refl
 terms-values d D s t w l h a (Int k) i = refl
 

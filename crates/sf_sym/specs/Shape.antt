@@ -2,13 +2,14 @@
 -- first goals have it; the laws of rows are laws of such goals.
 -- Berdine, Calcagno, O'Hearn, "Symbolic Execution with Separation Logic" (2005), section 4: what is assumed comes before
 -- commands, and what is shown before what it is shown for.
-use Rattle.std.specs.Prelude.{◌≡◌, ◌⊎◌, List, [], ◌∷◌}
+use Rattle.std.specs.Prelude.{◌≡◌, ◌⊎◌, Bool, List, [], ◌∷◌}
 use Rattle.std.specs.List.{AllByRecursion}
+use Rattle.sf_base.specs.declared.ids.Var.{Var}
 use Rattle.sf_sym.specs.Below.{AreBelow}
 use Rattle.sf_sym.specs.declared.atom.Numbered.{Numbered}
 use Rattle.sf_sym.specs.Formed.{AreFormed}
 use Rattle.sf_sym.specs.Goal.{Item, run, add, take, gave, head, again, exit, return, end, Goal}
-use Rattle.sf_sym.specs.Ready.{AreInOrder, HasOrder}
+use Rattle.sf_sym.specs.Ready.{AreInOrder, HasOrder, ReadsIn, is_listed}
 
 -- commands and the ends of regions, up to the end of a procedure or of a loop's body
 abbrev pub IsBody : List Item → Type 0
@@ -53,11 +54,18 @@ IsShowing (return q post ∷ rest) = ⊥
 abbrev pub HasForm : Goal → Type 0
 HasForm goal = (IsAssuming goal.todo × (goal.state.taken ≡ [])) ⊎ IsShowing goal.todo
 
+-- a command that is to be done next reads variables among those
+abbrev pub NextReadsIn : (Var → Bool) → List Item → Type 0
+NextReadsIn among (run c ∷ rest) = ReadsIn among c
+NextReadsIn among _ = Unit {0}
+
 -- HasShape: the goal speaks of symbols below its next one only, its variables and the fields of its cells are in order,
--- its conjuncts are formed, and what it has to do comes in the form that rows make
+-- its conjuncts are formed, what it has to do comes in the form that rows make, and the variables that are read next
+-- have terms
 pub record HasShape (goal : Goal) : Type 0 where
   pub below : AreBelow goal
   pub vars : AreInOrder goal.state.vars
   pub fields : AllByRecursion (λ (a : Numbered). HasOrder a.atom) goal.state.atoms
   pub formed : AreFormed goal
   pub form : HasForm goal
+  pub reads : NextReadsIn (is_listed goal.state.vars) goal.todo

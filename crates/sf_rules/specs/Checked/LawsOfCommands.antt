@@ -10,18 +10,16 @@ use Rattle.sf_base.specs.declared.value.Value.TheVariants.{Loc as loc}
 use Rattle.sf_base.specs.HeapStore.{Cell, Heap, put_field}
 use Rattle.sf_core.specs.Assertions.Sat.{IsTrueOf}
 use Rattle.sf_core.specs.declared.assertion.Test.{Test}
-use Rattle.sf_core.specs.declared.assertion.Test.TheVariants.{True, Equal, Differ}
 use Rattle.sf_core.specs.declared.command.Expr.{Expr}
 use Rattle.sf_core.specs.declared.command.Occurrence.{Occurrence}
 use Rattle.sf_core.specs.Machine.Step.{Finds}
 use Rattle.sf_core.specs.Program.Syntax.{Block, Command, assign, look_up, mutate, new, dispose, if}
 use Rattle.sf_rules.specs.Rows.Branches.{then_row, else_row}
 use Rattle.sf_rules.specs.Rows.Commands.{assign_row, look_row, mutate_row, new_row, dispose_row}
-use Rattle.sf_sym.specs.declared.term.Term.{Term}
 use Rattle.sf_sym.specs.Goal.{Item, run, Goal}
 use Rattle.sf_sym.specs.HoldsIn.{HoldsIn}
 use Rattle.sf_sym.specs.Checked.Laws.{Follows, HoldsStill, SomeOf}
-use Rattle.sf_sym.specs.Ready.{IsKnown, value_at, with_variable}
+use Rattle.sf_sym.specs.Ready.{HasTestValues, HasValue, value_at, with_variable}
 use Rattle.sf_sym.specs.Shape.{HasShape}
 use Rattle.sf_sym.specs.State.{State}
 
@@ -55,7 +53,7 @@ AssignFollowsEvent =
     → HasShape (before_command s (assign p x value) rest)
     → assign_row s (assign p x value) rest ≡ Some left
     → Executed (before_command s (assign p x value) rest) left
-    (λ w e free taken child. IsKnown s.vars e value
+    (λ w e free taken child. HasValue e value
     → HoldsStill w (before_command s (assign p x value) rest) (with_variable x.var (value_at e value) e) free
     taken child)
 
@@ -67,7 +65,7 @@ LookFollowsEvent =
     → HasShape (before_command s (look_up p x root field) rest)
     → look_row atom s (look_up p x root field) rest ≡ Some left
     → Executed (before_command s (look_up p x root field) rest) left
-    (λ w e free taken child. IsKnown s.vars e root → FindsCell e free root
+    (λ w e free taken child. HasValue e root → FindsCell e free root
     (λ location cell. HoldsStill w (before_command s (look_up p x root field) rest)
     (with_variable x.var (cell field.0) e) free taken child))
 
@@ -79,7 +77,7 @@ MutateFollowsEvent =
     → HasShape (before_command s (mutate p root field value) rest)
     → mutate_row atom s (mutate p root field value) rest ≡ Some left
     → Executed (before_command s (mutate p root field value) rest) left
-    (λ w e free taken child. IsKnown s.vars e root → IsKnown s.vars e value → FindsCell e free root
+    (λ w e free taken child. HasValue e root → HasValue e value → FindsCell e free root
     (λ location cell. HoldsStill w (before_command s (mutate p root field value) rest) e
     (heap_with location (Some (put_field cell field.0 (value_at e value))) free) taken child))
 
@@ -100,15 +98,9 @@ DisposeFollowsEvent =
     → HasShape (before_command s (dispose p root) rest)
     → dispose_row atom s (dispose p root) rest ≡ Some left
     → Executed (before_command s (dispose p root) rest) left
-    (λ w e free taken child. IsKnown s.vars e root → FindsCell e free root
+    (λ w e free taken child. HasValue e root → FindsCell e free root
     (λ location cell. HoldsStill w (before_command s (dispose p root) rest) e
     (heap_with location None free) taken child))
-
--- both sides of the test are known
-abbrev pub IsTestKnown : List (Var × Term) → (Var → Option Value) → Test Expr → Type 0
-IsTestKnown vars e True = Unit {0}
-IsTestKnown vars e (Equal x y) = IsKnown vars e x × IsKnown vars e y
-IsTestKnown vars e (Differ x y) = IsKnown vars e x × IsKnown vars e y
 
 -- then: the test is true, and nothing changes
 unfoldable pub ThenFollowsTest : Type 0
@@ -117,7 +109,7 @@ ThenFollowsTest =
     → HasShape (before_command s (if p test this that) rest)
     → then_row s (run (if p test this that) ∷ rest) ≡ Some left
     → Executed (before_command s (if p test this that) rest) left
-    (λ w e free taken child. IsTestKnown s.vars e test
+    (λ w e free taken child. HasTestValues e test
     → IsTrueOf (value_at e) test
     × HoldsStill w (before_command s (if p test this that) rest) e free taken child)
 
@@ -128,6 +120,6 @@ ElseFollowsTest =
     → HasShape (before_command s (if p test this that) rest)
     → else_row s (run (if p test this that) ∷ rest) ≡ Some left
     → Executed (before_command s (if p test this that) rest) left
-    (λ w e free taken child. IsTestKnown s.vars e test
+    (λ w e free taken child. HasTestValues e test
     → (IsTrueOf (value_at e) test → ⊥)
     × HoldsStill w (before_command s (if p test this that) rest) e free taken child)

@@ -11,6 +11,7 @@ pub mod RowRules
 pub mod RuleRows
 pub mod StateChildren
 pub mod Subtracting
+pub mod TodoReads
 pub mod VariableTerms
 use Rattle.std.proofs.Common.{◌≡◌, ℕ, Bool, true, false, cond, nat_lt, Option, Some, None, List, [], ◌∷◌, ◌++◌, map, refl, sym, ap, ◌∙◌, subst, append_assoc}
 use Rattle.sf_core.specs.declared.assertion.Conjunct.TheFolds.{fold_out-Level}

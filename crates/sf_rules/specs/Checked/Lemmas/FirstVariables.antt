@@ -1,15 +1,17 @@
--- The variables of a first state: symbols for parameters and nils for locals are in order.
--- Names: `LIST-all` of what is so of each variable, `LIST-order`.
+-- The variables of a first state: symbols for parameters and nils for locals are in order, and each of them has a term.
+-- Names: `LIST-all` of what is so of each variable, `LIST-order`, `LIST-listed`.
 use Rattle.std.specs.List.{AllByRecursion}
-use Rattle.std.proofs.Common.{◌≡◌, ℕ, zero, suc, ◌+◌, ◌<◌, ◌≤◌, true, ◌++◌, subst, arith}
+use Rattle.std.proofs.Common.{◌≡◌, ℕ, zero, suc, ◌+◌, ◌<◌, ◌≤◌, Bool, true, false, ◌||◌, ◌++◌, refl, subst, arith}
+use Rattle.std.proofs.lemmas.Bool.{or_left, or_right}
 use Rattle.std.proofs.lemmas.Bool.Decides.{nat_tests}
 use Rattle.sf_base.proofs.Elements.{all_by-append}
 use Rattle.sf_base.specs.declared.ids.Var.{Var}
 use Rattle.sf_base.specs.declared.ids.Var.TheVariants.{Own}
+use Rattle.sf_base.specs.Variables.{same_var}
 use Rattle.sf_rules.specs.First.{nils, symbols}
 use Rattle.sf_sym.specs.declared.term.Term.{Term}
 use Rattle.sf_sym.specs.declared.term.Term.TheVariants.{Nil, Sym}
-use Rattle.sf_sym.specs.Ready.{AreInOrder}
+use Rattle.sf_sym.specs.Ready.{AreInOrder, is_listed}
 use Rattle.sf_sym.specs.Variables.{comes_before}
 
 -- OWN VARIABLES
@@ -54,3 +56,34 @@ symbols-order from (suc count) rest = (
   subst (λ k. AreInOrder (symbols (suc from) count ++ nils k rest))
       (let e : suc from + count ≡ from + suc count = omega arith in e) (symbols-order (suc from) count rest),
 )
+
+-- each of them has a term
+nils-listed : (from count i : ℕ) → from ≤ i → i < from + count → is_listed (nils from count) (Own i) ≡ true
+nils-listed from zero i a b = absurd (omega (arith, a, b))
+nils-listed from (suc count) i a b =
+    go (same_var (Own from) (Own i)) refl (λ n. nils-listed (suc from) count i n (omega (arith, b)))
+  where
+    go : (c : Bool) → same_var (Own from) (Own i) ≡ c
+        → (suc from ≤ i → is_listed (nils (suc from) count) (Own i) ≡ true)
+        → same_var (Own from) (Own i) || is_listed (nils (suc from) count) (Own i) ≡ true
+    go true e r = or_left (same_var (Own from) (Own i)) (is_listed (nils (suc from) count) (Own i)) e
+    go false e r = or_right (same_var (Own from) (Own i)) (is_listed (nils (suc from) count) (Own i))
+        (r (let n : suc from ≤ i = grind (arith, nat_tests) in n))
+
+pub own-listed : (from count rest i : ℕ) → from ≤ i → i < from + count + rest
+    → is_listed (symbols from count ++ nils (from + count) rest) (Own i) ≡ true
+own-listed from zero rest i a b = nils-listed (from + 0) rest i (omega (arith, a)) (omega (arith, b))
+own-listed from (suc count) rest i a b =
+    go (same_var (Own from) (Own i)) refl (λ n. subst
+    (λ k. is_listed (symbols (suc from) count ++ nils k rest) (Own i) ≡ true)
+    (let e : suc from + count ≡ from + suc count = omega arith in e)
+    (own-listed (suc from) count rest i n (omega (arith, b))))
+  where
+    go : (c : Bool) → same_var (Own from) (Own i) ≡ c
+        → (suc from ≤ i → is_listed (symbols (suc from) count ++ nils (from + suc count) rest) (Own i) ≡ true)
+        → same_var (Own from) (Own i) || is_listed (symbols (suc from) count ++ nils (from + suc count) rest) (Own i)
+        ≡ true
+    go true e r = or_left (same_var (Own from) (Own i)) _ e
+    go false e r = or_right (same_var (Own from) (Own i))
+        (is_listed (symbols (suc from) count ++ nils (from + suc count) rest) (Own i))
+        (r (let n : suc from ≤ i = grind (arith, nat_tests) in n))

@@ -1,5 +1,5 @@
 -- What the goals that the rows on states leave have of the goal before: variables and fields are in order, each variable
--- that had a term has one, nothing more was handed over, and what is to do has the same form.
+-- that had a term has one, nothing more was handed over, and what is to do has the same form and reads the same variables.
 -- Names: `ROW-stays` of that row, `WHAT-stay` of what it makes, `WHAT-form` of the form of what is to do.
 use Rattle.std.specs.List.{AllByRecursion}
 use Rattle.std.specs.Option.{option_and_then, option_map}
@@ -9,17 +9,20 @@ use Rattle.std.proofs.lemmas.Option.{same_Some}
 use Rattle.sf_base.proofs.Elements.{all_by-append}
 use Rattle.sf_base.specs.declared.ids.FieldId.{FieldId}
 use Rattle.sf_base.specs.declared.ids.Var.{Var}
+use Rattle.sf_base.specs.declared.ids.Var.{Var}
 use Rattle.sf_base.specs.declared.place.Place.{Place}
 use Rattle.sf_core.specs.declared.assertion.Operand.{Operand}
 use Rattle.sf_core.specs.declared.assertion.Operand.TheVariants.{Known, Exists}
 use Rattle.sf_core.specs.declared.assertion.Test.TheVariants.{True, Equal, Differ}
 use Rattle.sf_core.specs.declared.fields.Links.{Links}
-use Rattle.sf_core.specs.Program.Syntax.{Conjunct, holds, points, segment, tree, choose, Conjuncts, none, also}
+use Rattle.sf_core.specs.Program.Syntax.{Conjunct, holds, points, segment, tree, choose, Conjuncts, none, also, Program}
 use Rattle.sf_normal.specs.Knowledge.{absurd_row, drop_row, force_row, split_row, unroll_row, unrolled, unrolled_segment, unrolled_tree}
 use Rattle.sf_produce.specs.Add.{add_first, add_row, added, goal_after, met, met_both, met_existential, met_fields}
+use Rattle.sf_rules.specs.HasVariables.{TodoReadsIn}
 use Rattle.sf_rules.specs.Rows.Branches.{branch_row, chosen}
 use Rattle.sf_rules.specs.Checked.Lemmas.CommandChildren.{IsOrdered}
 use Rattle.sf_rules.specs.Checked.Lemmas.Forms.{adding-assuming, same-form, with-form}
+use Rattle.sf_rules.specs.Checked.Lemmas.TodoReads.{adding-reads, with-reads}
 use Rattle.sf_rules.specs.Checked.Lemmas.VariableTerms.{map-listed, map-order}
 use Rattle.sf_sym.specs.Cells.{atom_at, with_atom, with_cell, without}
 use Rattle.sf_sym.specs.declared.atom.Atom.{Atom}
@@ -116,6 +119,7 @@ apart-stay t u goal s st = record {
 pub record GoalStays (goal child : Goal) : Type 0 where
   pub state : StateStays goal.state child.state
   pub form : HasForm goal → HasForm child
+  pub reads : (p : Program) (among : Var → Bool) → TodoReadsIn p among goal.todo → TodoReadsIn p among child.todo
 
 -- where terms are replaced
 equal-form : (t u : Term) (goal : Goal) → HasForm goal → HasForm (assumed_equal t u goal)
@@ -130,16 +134,30 @@ equal-form t u goal f = go (same_term t u)
     go true = f
     go false = one (which_goes t u)
 
+equal-reads : (t u : Term) (goal : Goal) (p : Program) (among : Var → Bool) → TodoReadsIn p among goal.todo
+    → TodoReadsIn p among (assumed_equal t u goal).todo
+equal-reads t u goal p among r = go (same_term t u)
+  where
+    one : (o : Option (ℕ × Term)) → TodoReadsIn p among (with_one o goal).todo
+    one None = r
+    one (Some m) = with-reads p (put_for m.0 m.1) goal.todo among r
+
+    go : (b : Bool) → TodoReadsIn p among (cond b goal (with_one (which_goes t u) goal)).todo
+    go true = r
+    go false = one (which_goes t u)
+
 equal_goal-stays : (t u : Term) (goal : Goal) → IsOrdered goal.state → GoalStays goal (assumed_equal t u goal)
 equal_goal-stays t u goal o = record {
   state = equal-stay t u goal goal.state (self-stay goal.state o);
   form = equal-form t u goal;
+  reads = equal-reads t u goal;
 }
 
 apart_goal-stays : (t u : Term) (goal : Goal) → IsOrdered goal.state → GoalStays goal (assumed_apart t u goal)
 apart_goal-stays t u goal o = record {
   state = apart-stay t u goal goal.state (self-stay goal.state o);
   form = λ f. f;
+  reads = λ p among r. r;
 }
 
 -- THE ROWS ON WHAT IS KNOWN
@@ -172,6 +190,7 @@ drop-stays goal left a o row = go (atom_at goal.state.atoms a) row
         taken = λ i. i;
       };
       form = λ f. f;
+      reads = λ p among r. r;
     })
     step false e = absurd (cc)
 
@@ -275,6 +294,7 @@ unroll-stays goal left a o row = go (atom_at goal.state.atoms a) row
         one-stays goal (record goal { state = s }) left e (record {
           state = record { ordered = st.ordered; listed = st.listed; taken = st.taken };
           form = same-form goal (record goal { state = s }) refl st.taken;
+          reads = λ p among r. r;
         })
 
     step : (x : Atom) (e : Term × Term) (b : Bool)
@@ -367,6 +387,7 @@ more-stay s s2 s3 a o m h vars atoms taken =
 record AddStays (s : State) (rest : List Item) (child : Goal) : Type 0 where
   pub state : StateStays s child.state
   pub form : IsAssuming rest → s.taken ≡ [] → HasForm child
+  pub reads : (p : Program) (among : Var → Bool) → TodoReadsIn p among rest → TodoReadsIn p among child.todo
 
 -- the goal with the others still to be assumed
 after-form : (s s2 : State) (p : Place) (cs : Conjuncts Term) (bindings : List (Option Term)) (rest : List Item)
@@ -374,11 +395,21 @@ after-form : (s s2 : State) (p : Place) (cs : Conjuncts Term) (bindings : List (
 after-form s s2 p cs bindings rest t i e =
     inl (adding-assuming p (record { conjuncts = cs; bindings = bindings }) rest i, t e)
 
+after-reads : (s2 : State) (p : Place) (cs : Conjuncts Term) (bindings : List (Option Term)) (rest : List Item)
+    (program : Program) (among : Var → Bool) → TodoReadsIn program among rest
+    → TodoReadsIn program among (goal_after s2 p cs bindings rest).todo
+after-reads s2 p cs bindings rest program among r =
+    adding-reads program among p rest r (record { conjuncts = cs; bindings = bindings })
+
 added-stays : (s : State) (p : Place) (bindings : List (Option Term)) (c : Conjunct Term) (cs : Conjuncts Term)
     (rest : List Item) (child : Goal) → IsOrdered s → added s p bindings c cs rest ≡ Some child
     → AddStays s rest child
 added-stays s p bindings (holds q True) cs rest child o e = subst (AddStays s rest) (same_Some _ child e)
-    (record { state = self-stay s o; form = after-form s s p cs bindings rest (λ e. e) })
+    (record {
+      state = self-stay s o;
+      form = after-form s s p cs bindings rest (λ e. e);
+      reads = after-reads s p cs bindings rest;
+    })
 added-stays s p bindings (holds q (Equal x y)) cs rest child o e =
     let m = met_both s bindings x y in
     let st = same-stay s m.state o (both-same s bindings x y) in
@@ -386,6 +417,8 @@ added-stays s p bindings (holds q (Equal x y)) cs rest child o e =
       state = equal-stay m.one m.two (goal_after m.state p cs m.bindings rest) s st;
       form = λ i t. equal-form m.one m.two (goal_after m.state p cs m.bindings rest)
           (after-form s m.state p cs m.bindings rest st.taken i t);
+      reads = λ program among r. equal-reads m.one m.two (goal_after m.state p cs m.bindings rest) program among
+          (after-reads m.state p cs m.bindings rest program among r);
     })
 added-stays s p bindings (holds q (Differ x y)) cs rest child o e =
     let m = met_both s bindings x y in
@@ -393,6 +426,7 @@ added-stays s p bindings (holds q (Differ x y)) cs rest child o e =
     subst (AddStays s rest) (same_Some _ child e) (record {
       state = apart-stay m.one m.two (goal_after m.state p cs m.bindings rest) s st;
       form = after-form s m.state p cs m.bindings rest st.taken;
+      reads = after-reads m.state p cs m.bindings rest;
     })
 added-stays s p bindings (points q x fs) cs rest child o e =
     let root = met s bindings x in
@@ -403,6 +437,7 @@ added-stays s p bindings (points q x fs) cs rest child o e =
     subst (AddStays s rest) (same_Some _ child e) (record {
       state = st;
       form = after-form s (with_cell m.state root.term m.fields) p cs m.bindings rest st.taken;
+      reads = after-reads (with_cell m.state root.term m.fields) p cs m.bindings rest;
     })
 added-stays s p bindings (segment q next x y) cs rest child o e =
     let m = met_both s bindings x y in
@@ -411,6 +446,7 @@ added-stays s p bindings (segment q next x y) cs rest child o e =
     subst (AddStays s rest) (same_Some _ child e) (record {
       state = st;
       form = after-form s (with_atom (Ls m.one m.two) m.state) p cs m.bindings rest st.taken;
+      reads = after-reads (with_atom (Ls m.one m.two) m.state) p cs m.bindings rest;
     })
 added-stays s p bindings (tree q left right x) cs rest child o e =
     let m = met s bindings x in
@@ -418,6 +454,7 @@ added-stays s p bindings (tree q left right x) cs rest child o e =
     subst (AddStays s rest) (same_Some _ child e) (record {
       state = st;
       form = after-form s (with_atom (Tree m.term) m.state) p cs m.bindings rest st.taken;
+      reads = after-reads (with_atom (Tree m.term) m.state) p cs m.bindings rest;
     })
 added-stays s p bindings (choose q t this that) cs rest child o e = absurd (cc)
 
@@ -433,6 +470,7 @@ add-stays s p given rest left o row = first given.conjuncts row
     stays child h = record {
       state = h.state;
       form = λ f. elim f [ inl i ↦ h.form i.0 i.1 | inr i ↦ absurd i ];
+      reads = h.reads;
     }
 
     go : (m : Option Goal) → ((child : Goal) → m ≡ Some child → AddStays s rest child)
@@ -458,4 +496,5 @@ choice-stays so s p given rest left o row = go (chosen so s given given.conjunct
     go (Some z) e = one-stays (assumes s p given rest) (record { state = s; todo = adding p z ++ rest }) left e (record {
       state = self-stay s o;
       form = λ f. elim f [ inl i ↦ inl (adding-assuming p z rest i.0, i.1) | inr i ↦ absurd i ];
+      reads = λ program among r. adding-reads program among p rest r z;
     })

@@ -19,7 +19,7 @@ use Rattle.sf_sym.specs.Below.{AllPaired}
 use Rattle.sf_sym.specs.declared.term.Term.{Term}
 use Rattle.sf_sym.specs.declared.term.Term.TheVariants.{Nil, Int}
 use Rattle.sf_sym.specs.Holds.{term_value, Agrees}
-use Rattle.sf_sym.specs.Ready.{AreInOrder, IsKnown, is_listed, value_at, with_variable}
+use Rattle.sf_sym.specs.Ready.{AreInOrder, HasValue, IsIn, is_listed, value_at, with_variable}
 use Rattle.sf_sym.specs.State.{term, term_at}
 use Rattle.sf_sym.specs.Variables.{comes_before, set_var}
 
@@ -36,17 +36,17 @@ module _ (w : ℕ → Value) (e : Var → Option Value) where
       go true c k r = sym (a.0 v (ap e ((same_var-decides y.0 x).0 c) ∙ i))
       go false c k r = r k
 
-  -- an expression that is known has its term's value
+  -- an expression whose variable has a term and a value has its term's value
   pub known-value : (vars : List (Var × Term)) → AllByRecursion (Agrees w e) vars → (x : Expr)
-      → IsKnown vars e x → term_value w (term vars x) ≡ value_at e x
-  known-value vars a (Variable x) k = go (e x.var) refl k.1
+      → IsIn (is_listed vars) x → HasValue e x → term_value w (term vars x) ≡ value_at e x
+  known-value vars a (Variable x) l k = go (e x.var) refl k
     where
       go : (o : Option Value) → e x.var ≡ o → is_some o ≡ true
           → term_value w (term_at vars x.var) ≡ unwrap_or (e x.var) nil
       go None i s = absurd (cc)
-      go (Some v) i s = listed-value vars x.var v a i k.0 ∙ ap (λ o. unwrap_or o nil) (sym i)
-  known-value vars a ENil k = refl
-  known-value vars a (EInt i) k = refl
+      go (Some v) i s = listed-value vars x.var v a i l ∙ ap (λ o. unwrap_or o nil) (sym i)
+  known-value vars a ENil l k = refl
+  known-value vars a (EInt i) l k = refl
 
 -- the term of an expression has a property that nil, the integers and the variables' terms have
 pub term-all : (P : Term → Type 0) → P Nil → ((i : ℤ) → P (Int i)) → (vars : List (Var × Term)) → AllPaired P vars
