@@ -21,10 +21,7 @@ use Rattle.sf_state.specs.Starts.{IsStartText}
 use Rattle.sf_state.specs.declared.fault.StartFault.{StartFault}
 use Rattle.sf_cli.specs.FileFault.{FileFault, Admits}
 use Rattle.sf_cli.specs.Refusals.{refusal_text}
-use Rattle.sf_report.specs.declared.stuck.Stuck.{Stuck}
-use Rattle.sf_report.specs.declared.stuck.Stuck.TheVariants.{NoCell, NotEqual, NotDifferent, NoAtom, Leak, EndNotAllocated}
 use Rattle.sf_report.specs.Failure.{failure_text, too_large_text}
-use Rattle.sf_search.specs.Strategy.{Kind, no_cell, not_equal, not_different, no_atom, leak, end_not_allocated}
 use Rattle.sf_search.specs.Judge.{Cause, stuck_at, too_large, Verdict, proof, fails, Judge}
 use Rattle.sf_base.specs.declared.ids.ProcId.{ProcId}
 use Rattle.sf_proof.specs.ProofText.{proof_text}
@@ -44,19 +41,10 @@ use Rattle.sf_words.specs.Words.{Text, Order, demo, order_of, ranking, recheck, 
 use Rattle.sf_cli.specs.StartRefusals.{start_refusal_text}
 use Rattle.sf_cli.specs.Usage.{usage_text}
 
--- why a search is stuck, as it is printed
-abbrev pub printed : Kind → Stuck
-printed no_cell = NoCell
-printed not_equal = NotEqual
-printed not_different = NotDifferent
-printed no_atom = NoAtom
-printed leak = Leak
-printed end_not_allocated = EndNotAllocated
-
 -- why a procedure fails, printed: the goal at which its search is stuck, or that its proof would be
 -- too large
 abbrev pub cause_text : Program → ProcId → Cause → Text
-cause_text p f (stuck_at goal kind before) = failure_text p f goal (printed kind)
+cause_text p f (stuck_at goal kind before) = failure_text p f goal kind
 cause_text p f too_large = too_large_text p f
 
 -- the verdict on a program, printed

@@ -10,7 +10,7 @@ use Rattle.sf_core.specs.Program.Syntax.{Procedure, Program}
 use Rattle.sf_sym.specs.Goal.{Goal, Item, run, add, take, gave, head, again, exit, return, end}
 use Rattle.sf_sym.specs.State.{State}
 use Rattle.sf_proof.specs.ProofText.{Text}
-use Rattle.sf_report.specs.declared.stuck.Stuck.{Stuck}
+use Rattle.sf_sym.specs.declared.stuck.Stuck.{Stuck}
 use Rattle.sf_report.specs.Listed.{atoms_listed, pairs_listed}
 use Rattle.sf_report.specs.Pieces.{kind_text, line_text, numbered_text, pair_text, place_text, value_text}
 use Rattle.sf_report.specs.Wanted.{want_text}

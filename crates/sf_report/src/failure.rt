@@ -12,12 +12,11 @@ ghost use Rattle.sf_report.specs.Wanted.{want_text};
 use crate::listed::{atoms_listed, pairs_listed};
 use crate::names::put_bytes;
 use crate::pieces::{put_atoms, put_kind, put_numbered, put_pairs, put_place, put_vars};
-use crate::stuck::Stuck;
 use crate::wanted::put_want;
 use sf_base::{Place, ProcId};
 use sf_core::Program;
 use sf_proof::put;
-use sf_sym::{Goal, Item, Numbered, State, peek_item};
+use sf_sym::{Goal, Item, Numbered, State, Stuck, peek_item};
 use std::alloc::{AllocError, Global};
 
 /// The first place of a text.

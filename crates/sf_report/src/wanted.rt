@@ -15,13 +15,12 @@ ghost use Rattle.sf_report.specs.Pieces.{joined};
 ghost use Rattle.sf_report.specs.Wanted.{address, address_text, at_conjunct, conjunct_text, first_cell, first_text, misfit_at, misfit_text, operand_text, scope_of, test_text, want_text, wanted_text};
 
 use crate::names::{name_at, put_bytes, put_field};
-use crate::stuck::Stuck;
 use itoa::Buffer;
 use sf_base::{FieldId, Name};
 use sf_consume::{Met, Misfit, first_misfit};
 use sf_core::{Command, Conjunct, Expr, Operand, Program, Test};
 use sf_proof::{put, put_term};
-use sf_sym::{Item, Numbered, Pending, State, Term, peek_item, term_of};
+use sf_sym::{Item, Numbered, Pending, State, Stuck, Term, peek_item, term_of};
 use std::alloc::{AllocError, Global};
 
 /// What existentials stand for, and their names.

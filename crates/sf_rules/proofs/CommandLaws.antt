@@ -37,10 +37,10 @@ use Rattle.sf_sym.specs.Goal.{Item, run, add, take, gave, head, again, exit, ret
 use Rattle.sf_sym.specs.Holds.{term_value, AtomsHold, AddsHold}
 use Rattle.sf_sym.specs.HoldsIn.{HoldsIn}
 use Rattle.sf_sym.specs.Checked.Laws.{Follows, HoldsStill}
-use Rattle.sf_sym.specs.Ready.{AreInOrder, HasOrder, IsKnown, value_at, with_variable}
+use Rattle.sf_sym.specs.Ready.{HasOrder, IsKnown, value_at, with_variable}
 use Rattle.sf_sym.specs.Shape.{HasShape, IsBody}
 use Rattle.sf_sym.specs.State.{State, term, with_symbols}
-use Rattle.sf_sym.specs.Variables.{set_var}
+use Rattle.sf_sym.specs.Variables.{AreInOrder, set_var}
 
 -- commands assume nothing, so no heap is needed for it
 body-empty : (w : ℕ → Value) (items : List Item) (heap : Heap) → IsBody items → IsEmpty heap → AddsHold w items heap

@@ -18,7 +18,7 @@ use crate::front::{take_add, take_take};
 use sf_base::FieldId;
 use sf_consume::{ConsumeFault, subtract};
 use sf_core::{Conjunct, Operand};
-use sf_produce::produce;
+use sf_produce::{OPERANDS, produce};
 use sf_sym::{Goal, Pending, Tag, Term, with_take};
 use std::alloc::{AllocError, Global};
 
@@ -77,7 +77,7 @@ fn operands(given: &Pending) -> usize
 {
     match given.first() {
         Some(Conjunct::Points(_, root, fields)) => is_existential(root) + existentials_in(fields),
-        _ => 2,
+        _ => OPERANDS,
     }
 }
 

@@ -9,7 +9,9 @@ use Rattle.sf_core.specs.Program.Syntax.{Procedure}
 use Rattle.sf_rules.specs.Checked.Lemmas.RowRules.{row-leaves}
 use Rattle.sf_rules.specs.Rows.Whole.{row}
 use Rattle.sf_rules.specs.Setting.{Setting}
-use Rattle.sf_search.specs.Strategy.{Choice, chooses, stays, takes}
+use Rattle.sf_search.specs.declared.choices.choice.Choice.{Choice}
+use Rattle.sf_search.specs.declared.choices.choice.Choice.TheVariants.{Stays as stays, Takes as takes}
+use Rattle.sf_search.specs.Strategy.{chooses}
 use Rattle.sf_rules.specs.First.{first_goal}
 use Rattle.sf_search.specs.Judge.{Chosen, JudgeFrom, Outcome, Search, Verdict, WithinLimit, fails, large, proof, proved, stuck, stuck_at, too_large, with_prefix}
 use Rattle.sf_search.proofs.Reached.{IsReached, reached_first, reached_next, reached_row}

@@ -9,6 +9,7 @@ pub mod Taken
 pub mod Reached
 pub mod Ending
 pub mod Settled
+pub mod OneRoot
 pub mod Fewer
 pub mod Grown
 pub mod Sole
@@ -17,4 +18,3 @@ pub mod KnownNext
 pub mod Kept
 pub mod StillKnown
 pub mod Leading
-pub mod Judging

@@ -7,7 +7,9 @@ use Rattle.sf_rules.specs.Checked.Lemmas.RuleRows.{leaves-row}
 use Rattle.sf_rules.specs.Rows.Whole.{row}
 use Rattle.sf_rules.specs.Rules.{Leaves}
 use Rattle.sf_rules.specs.Setting.{Setting}
-use Rattle.sf_search.specs.Strategy.{Kind, chooses, stays, takes}
+use Rattle.sf_search.specs.declared.choices.choice.Choice.TheVariants.{Stays as stays, Takes as takes}
+use Rattle.sf_search.specs.Strategy.{chooses}
+use Rattle.sf_sym.specs.declared.stuck.Stuck.{Stuck}
 use Rattle.sf_rules.specs.First.{first_goal}
 use Rattle.sf_search.specs.Judge.{Chosen, Continues, JudgedAfter, JudgeFrom, Outcome, Search, Verdict, WithinLimit, large, proved, stuck, with_prefix}
 use Rattle.sf_search.specs.Checked.Laws.{SearchIsUnique, VerdictsAreUnique}
@@ -25,7 +27,7 @@ module _ (d : Setting) where
 
   -- with a goal and no tag the strategy is stuck there, or would take one more
   data Stops (g : Goal) (o : Outcome) : Type 0 where
-    stays_there : (kind : Kind) → chooses g ≡ stays kind → o ≡ stuck g kind → Stops g o
+    stays_there : (kind : Stuck) → chooses g ≡ stays kind → o ≡ stuck g kind → Stops g o
     would_take : (tag : Tag) → chooses g ≡ takes tag → o ≡ large → Stops g o
 
   chosen-stops : (g : Goal) (gs : List Goal) (o : Outcome) → Chosen d (g ∷ gs) [] o → Stops g o
@@ -42,7 +44,7 @@ module _ (d : Setting) where
   large-limit : (o : Outcome) (n : ℕ) → o ≡ large → WithinLimit o n → n ≡ PROCEDURE_TAGS
   large-limit o n e l = let m : WithinLimit large n = subst (λ z. WithinLimit z n) e l in m
 
-  not-both : (g : Goal) (tag : Tag) (kind : Kind) → chooses g ≡ takes tag → chooses g ≡ stays kind → ⊥
+  not-both : (g : Goal) (tag : Tag) (kind : Stuck) → chooses g ≡ takes tag → chooses g ≡ stays kind → ⊥
   not-both g tag kind a b = let e : takes tag ≡ stays kind = sym a ∙ b in absurd (cc)
 
   stops-once : (n : ℕ) (g : Goal) (o q : Outcome) → Stops g o → Stops g q → WithinLimit o n → WithinLimit q n → o ≡ q

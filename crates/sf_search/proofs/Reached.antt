@@ -13,7 +13,8 @@ use Rattle.sf_rules.specs.Shape.{IsGoalAfter}
 use Rattle.sf_search.proofs.Taken.{taken_tags_have_rows}
 use Rattle.sf_search.specs.Checked.Laws.{TakenTagsHaveRows}
 use Rattle.sf_search.specs.Checked.ShapeLaws.{KeepsShape}
-use Rattle.sf_search.specs.Strategy.{chooses, takes}
+use Rattle.sf_search.specs.declared.choices.choice.Choice.TheVariants.{Takes as takes}
+use Rattle.sf_search.specs.Strategy.{chooses}
 use Rattle.sf_sym.specs.declared.tag.Tag.{Tag}
 use Rattle.sf_sym.specs.Goal.{Goal}
 

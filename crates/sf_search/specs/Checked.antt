@@ -3,6 +3,7 @@
 pub mod Choosing
 pub mod Growth
 pub mod Holding
+pub mod Judging
 pub mod Knowing
 pub mod Laws
 pub mod Settled

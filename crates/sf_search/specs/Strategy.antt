@@ -1,6 +1,6 @@
 -- The strategy, which chooses the tag at each goal, or says why the goal is stuck.
 -- Berdine, Calcagno, O'Hearn, "Smallfoot" (2005): proof search by symbolic execution, in this project's own profile.
-use Rattle.std.specs.Prelude.{ℕ, Bool, ◌&&◌, ◌||◌, not, cond, is_some, nat_lt, Option, Some, None, List, [], ◌∷◌}
+use Rattle.std.specs.Prelude.{ℕ, Bool, ◌||◌, not, cond, is_some, nat_lt, Option, Some, None, List, [], ◌∷◌}
 use Rattle.std.specs.Option.{option_map, option_and_then}
 use Rattle.sf_consume.specs.Subtract.{bind_step, both, cell_step, empty_step, is_same_shape, same_step, wanted_shape, Step}
 use Rattle.sf_core.specs.declared.assertion.Operand.{Operand}
@@ -10,6 +10,10 @@ use Rattle.sf_core.specs.Program.Syntax.{Conjunct, holds, points, segment, tree,
 use Rattle.sf_sym.specs.declared.atom.Atom.{Atom}
 use Rattle.sf_sym.specs.declared.atom.Atom.TheVariants.{Points, Ls, Tree}
 use Rattle.sf_sym.specs.declared.atom.Numbered.{Numbered}
+use Rattle.sf_search.specs.declared.choices.choice.Choice.{Choice}
+use Rattle.sf_search.specs.declared.choices.choice.Choice.TheVariants.{Takes as takes, Stays as stays}
+use Rattle.sf_sym.specs.declared.stuck.Stuck.{Stuck}
+use Rattle.sf_sym.specs.declared.stuck.Stuck.TheVariants.{NoCell as no_cell, NotEqual as not_equal, NotDifferent as not_different, NoAtom as no_atom, Leak as leak, EndNotAllocated as end_not_allocated}
 use Rattle.sf_sym.specs.declared.tag.Tag.{Tag}
 use Rattle.sf_sym.specs.declared.tag.Tag.TheVariants as t
 use Rattle.sf_sym.specs.declared.term.Term.{Term}
@@ -20,27 +24,7 @@ use Rattle.sf_sym.specs.Goal.{Item, run, add, take, gave, head, again, exit, ret
 use Rattle.sf_sym.specs.Pending.{Pending}
 use Rattle.sf_sym.specs.State.{State, term}
 use Rattle.sf_sym.specs.Tests.{allocated, differs, is_absurd, is_constant, parts, same_term}
-use Rattle.sf_sym.specs.Known.{ends, is_nothing}
-
--- why a goal is stuck
-pub data Kind : Type 0 where
-  -- the command's cell isn't known to be there
-  no_cell : Kind
-  -- two terms aren't known to be the same
-  not_equal : Kind
-  -- two terms aren't known to differ
-  not_different : Kind
-  -- a wanted part of the heap isn't known to be there
-  no_atom : Kind
-  -- parts of the heap are left at the end
-  leak : Kind
-  -- the end of a wanted segment isn't known to be outside the segment that begins it
-  end_not_allocated : Kind
-
--- what the strategy does at a goal: it takes a tag, or it is stuck there
-pub data Choice : Type 0 where
-  takes : Tag → Choice
-  stays : Kind → Choice
+use Rattle.sf_sym.specs.Known.{ends, forced_pair, is_nothing}
 
 -- Atoms
 -- what has the lower number, of two things that are there or not
@@ -70,17 +54,11 @@ tree_at u (Points v fields) = None
 tree_at u (Ls v w) = None
 tree_at u (Tree v) = cond (same_term v u) (Some (Tree v)) None
 
--- a segment or tree whose root can't be a cell of its own
-abbrev pub forced_ends : State → (a : ℕ) → Atom → Option (Term × Term)
-forced_ends s a x =
-    option_and_then (λ e. cond (not (same_term e.0 e.1) && (is_constant e.0 || allocated s e.0 (Some a))) (Some e)
-    None) (ends x)
-
--- the lowest atom that is to be empty
+-- the lowest atom that is to be empty, and two terms that are the same then
 abbrev pub lowest_forced : State → List Numbered → Option (ℕ × (Term × Term))
 lowest_forced s [] = None
 lowest_forced s (a ∷ rest) =
-    lower (option_map (λ e. (a.number, e)) (forced_ends s a.number a.atom)) (lowest_forced s rest)
+    lower (option_map (λ e. (a.number, e)) (forced_pair s a.number a.atom)) (lowest_forced s rest)
 
 -- the ends of a segment or tree of which it isn't known whether it is empty
 abbrev pub undecided_ends : State → Atom → Option (Term × Term)
@@ -89,12 +67,12 @@ undecided_ends s x =
 
 -- Where a goal would be stuck
 -- these ends are split, and without any the goal is stuck
-abbrev pub split_found : Kind → Option (ℕ × (Term × Term)) → Choice
+abbrev pub split_found : Stuck → Option (ℕ × (Term × Term)) → Choice
 split_found kind None = stays kind
 split_found kind (Some (a, e)) = takes (t.Split e.0 e.1)
 
 -- the ends of the lowest atom or taken atom that is undecided are split, and without one the goal is stuck
-abbrev pub split_or : State → Kind → Choice
+abbrev pub split_or : State → Stuck → Choice
 split_or s kind = split_found kind (lowest (undecided_ends s) (parts s))
 
 -- the first of two choices that is there
@@ -121,7 +99,7 @@ found_or found c (Some (a, x)) = found a
 found_or found c None = c
 
 -- a cell at that term is wanted: the lowest one, or a part of the heap is opened
-abbrev pub at_cell : State → Term → (found : ℕ → Choice) → Kind → Choice
+abbrev pub at_cell : State → Term → (found : ℕ → Choice) → Stuck → Choice
 at_cell s u found kind =
     found_or found (or_else (opened s u) (split_or s kind)) (lowest (λ x. fields_at x u) s.atoms)
 

@@ -23,7 +23,7 @@ mod settled;
 mod wanted;
 mod whole;
 
-pub use choice::{Choice, Kind};
+pub use choice::Choice;
 pub(crate) use growth::{Size, grown_bare, grown_roots, grows_settled, staying};
 pub(crate) use settled::{keeps_settled, leaves_possible};
 pub use whole::choose;

@@ -71,7 +71,8 @@ use Rattle.sf_sym.specs.Holds.{term_value, Agrees, AtomsHold, Differ}
 use Rattle.sf_sym.specs.HoldsIn.{HoldsIn}
 use Rattle.sf_sym.specs.Checked.Lemmas.Below.{below-symbol}
 use Rattle.sf_sym.specs.Pending.{Pending}
-use Rattle.sf_sym.specs.Ready.{AreInOrder, is_listed}
+use Rattle.sf_sym.specs.Ready.{is_listed}
+use Rattle.sf_sym.specs.Variables.{AreInOrder}
 use Rattle.sf_sym.specs.State.{State, first_state, term}
 
 -- listed

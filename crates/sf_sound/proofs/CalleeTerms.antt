@@ -34,9 +34,9 @@ use Rattle.sf_sound.specs.Checked.Suits.{CallSuits, Domain, HasDomain, IsListed,
 use Rattle.sf_sym.specs.declared.term.Term.{Term}
 use Rattle.sf_sym.specs.Holds.{term_value, Agrees, PendingHolds}
 use Rattle.sf_sym.specs.Checked.Lemmas.KnownValues.{listed-value}
-use Rattle.sf_sym.specs.Ready.{AreInOrder, is_listed}
+use Rattle.sf_sym.specs.Ready.{is_listed}
 use Rattle.sf_sym.specs.State.{State, term, term_at}
-use Rattle.sf_sym.specs.Variables.{fresh_for, set_vars}
+use Rattle.sf_sym.specs.Variables.{AreInOrder, fresh_for, set_vars}
 
 -- VALUES
 own-values : (w : ℕ → Value) (f : Expr → Term) (g : Expr → Value) (T : Var → Term) (V : Var → Value)

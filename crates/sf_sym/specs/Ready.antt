@@ -1,7 +1,6 @@
 -- What the rules of commands rest on: which variables and cells a goal knows, and that its lists are in order.
 -- Berdine, Calcagno, O'Hearn, "Symbolic Execution with Separation Logic" (2005), section 4.
 use Rattle.std.specs.Prelude.{◌≡◌, Bool, true, false, ◌||◌, cond, Option, Some, List, [], ◌∷◌, is_some}
-use Rattle.std.specs.List.{AllByRecursion}
 use Rattle.std.specs.Option.{unwrap_or}
 use Rattle.sf_base.specs.declared.ids.Var.{Var}
 use Rattle.sf_base.specs.declared.value.Value.{Value}
@@ -14,7 +13,6 @@ use Rattle.sf_sym.specs.declared.atom.Atom.{Atom}
 use Rattle.sf_sym.specs.declared.atom.Atom.TheVariants.{Points, Ls, Tree}
 use Rattle.sf_sym.specs.declared.term.Term.{Term}
 use Rattle.sf_sym.specs.Fields.{AreOrdered}
-use Rattle.sf_sym.specs.Variables.{comes_before}
 
 -- whether a variable has a term
 abbrev pub is_listed : List (Var × Term) → Var → Bool
@@ -34,11 +32,6 @@ abbrev pub IsKnown : List (Var × Term) → (Var → Option Value) → Expr → 
 IsKnown vars e (Variable x) = (is_listed vars x.var ≡ true) × (is_some (e x.var) ≡ true)
 IsKnown vars e ENil = Unit {0}
 IsKnown vars e (EInt i) = Unit {0}
-
--- variables in order, each once
-abbrev pub AreInOrder : List (Var × Term) → Type 0
-AreInOrder [] = Unit {0}
-AreInOrder (v ∷ vs) = AllByRecursion (λ (u : Var × Term). comes_before v.0 u.0 ≡ true) vs × AreInOrder vs
 
 -- a cell's fields are in order
 abbrev pub HasOrder : Atom → Type 0

@@ -7,6 +7,7 @@ pub mod FewNew
 pub mod FirstVariables
 pub mod Forms
 pub mod FreshVariables
+pub mod RowParts
 pub mod RowRules
 pub mod RuleRows
 pub mod StateChildren

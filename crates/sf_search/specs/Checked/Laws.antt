@@ -7,7 +7,8 @@ use Rattle.sf_rules.specs.Few.{has_numbers}
 use Rattle.sf_rules.specs.Rules.{Leaves}
 use Rattle.sf_rules.specs.Setting.{Setting}
 use Rattle.sf_rules.specs.Shape.{IsShaped}
-use Rattle.sf_search.specs.Strategy.{chooses, takes}
+use Rattle.sf_search.specs.declared.choices.choice.Choice.TheVariants.{Takes as takes}
+use Rattle.sf_search.specs.Strategy.{chooses}
 use Rattle.sf_search.specs.Judge.{Judge, Outcome, Search, Verdict, proof}
 use Rattle.sf_rules.specs.Proving.{Proves}
 use Rattle.sf_search.specs.Checked.ShapeLaws.{KeepsShape}

@@ -26,7 +26,8 @@ use Rattle.sf_sym.specs.Fields.{field_term, put_term}
 use Rattle.sf_sym.specs.Goal.{Item, run, Goal, one_goal, to_run}
 use Rattle.sf_sym.specs.Checked.Lemmas.{put-order}
 use Rattle.sf_sym.specs.Checked.Lemmas.AtomLists.{at-all, at-cell, with_fields-all, without-all}
-use Rattle.sf_sym.specs.Ready.{AreInOrder, HasOrder, is_listed}
+use Rattle.sf_sym.specs.Ready.{HasOrder, is_listed}
+use Rattle.sf_sym.specs.Variables.{AreInOrder}
 use Rattle.sf_sym.specs.State.{State, term, with_symbols}
 
 -- the state's lists are in order

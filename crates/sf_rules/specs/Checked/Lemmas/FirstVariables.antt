@@ -9,8 +9,7 @@ use Rattle.sf_base.specs.declared.ids.Var.TheVariants.{Own}
 use Rattle.sf_rules.specs.First.{nils, symbols}
 use Rattle.sf_sym.specs.declared.term.Term.{Term}
 use Rattle.sf_sym.specs.declared.term.Term.TheVariants.{Nil, Sym}
-use Rattle.sf_sym.specs.Ready.{AreInOrder}
-use Rattle.sf_sym.specs.Variables.{comes_before}
+use Rattle.sf_sym.specs.Variables.{AreInOrder, comes_before}
 
 -- OWN VARIABLES
 module _ (P : Var × Term → Type 0) where

@@ -30,11 +30,12 @@ use Rattle.sf_sym.specs.declared.term.Term.TheVariants.{Sym}
 use Rattle.sf_sym.specs.Equalities.{assumed_apart, assumed_equal, atom_with, numbered_with, put_for, state_with, which_goes, with_one}
 use Rattle.sf_sym.specs.Fields.{AreAfter, AreOrdered, put_term}
 use Rattle.sf_sym.specs.Goal.{Item, add, Goal, adding, one_goal}
-use Rattle.sf_sym.specs.Known.{ends, is_forced, is_nothing}
+use Rattle.sf_sym.specs.Known.{ends, forced_pair, is_nothing}
 use Rattle.sf_sym.specs.Checked.Lemmas.{put-order}
 use Rattle.sf_sym.specs.Checked.Lemmas.AtomLists.{without-all}
 use Rattle.sf_sym.specs.Pending.{Pending}
-use Rattle.sf_sym.specs.Ready.{AreInOrder, HasOrder, is_listed}
+use Rattle.sf_sym.specs.Ready.{HasOrder, is_listed}
+use Rattle.sf_sym.specs.Variables.{AreInOrder}
 use Rattle.sf_sym.specs.Shape.{HasForm, IsAssuming}
 use Rattle.sf_sym.specs.State.{State, with_symbols}
 use Rattle.sf_sym.specs.Tests.{differs, is_absurd, same_term}
@@ -185,19 +186,12 @@ drop-stays goal left a o row = go (atom_at goal.state.atoms a) row
 
 pub force-stays : (goal : Goal) (left : List Goal) (a : ℕ) → IsOrdered goal.state → force_row goal a ≡ Some left
     → AllStay goal left
-force-stays goal left a o row = go (option_and_then ends (atom_at goal.state.atoms a)) row
+force-stays goal left a o row = go (option_and_then (forced_pair goal.state a) (atom_at goal.state.atoms a)) row
   where
-    step : (e : Term × Term) (b : Bool) → cond b (Some (assumed_equal e.0 e.1 goal ∷ [])) None ≡ Some left
-        → AllStay goal left
-    step e true i = one-stays goal (assumed_equal e.0 e.1 goal) left i (equal_goal-stays e.0 e.1 goal o)
-    step e false i = absurd (cc)
-
-    go : (x : Option (Term × Term))
-        → option_and_then (λ e. cond (is_forced goal.state a e) (Some
-        (assumed_equal e.0 e.1 goal ∷ [])) None) x ≡ Some left
+    go : (x : Option (Term × Term)) → option_map (λ e. assumed_equal e.0 e.1 goal ∷ []) x ≡ Some left
         → AllStay goal left
     go None e = absurd (cc)
-    go (Some x) e = step x (is_forced goal.state a x) e
+    go (Some v) e = one-stays goal (assumed_equal v.0 v.1 goal) left e (equal_goal-stays v.0 v.1 goal o)
 
 pub split-stays : (goal : Goal) (left : List Goal) (t u : Term) → IsOrdered goal.state
     → split_row goal t u ≡ Some left

@@ -11,8 +11,8 @@ use Rattle.sf_base.specs.declared.ids.Var.TheVariants.{Own, Shared}
 use Rattle.sf_base.specs.Variables.{same_var}
 use Rattle.sf_sym.specs.declared.term.Term.{Term}
 use Rattle.sf_sym.specs.Checked.Lemmas.KnownValues.{before-trans}
-use Rattle.sf_sym.specs.Ready.{AreInOrder, is_listed}
-use Rattle.sf_sym.specs.Variables.{comes_before, remove_var, remove_vars, set_var, set_vars}
+use Rattle.sf_sym.specs.Ready.{is_listed}
+use Rattle.sf_sym.specs.Variables.{AreInOrder, comes_before, remove_var, remove_vars, set_var, set_vars}
 
 -- the variable comes before each of them
 abbrev pub BeforeAll : Var → List (Var × Term) → Type 0

@@ -1,4 +1,4 @@
--- Verdicts, procedure by procedure, where each search stands on a board or is made now.
+-- Verdicts, procedure by procedure: what was judged so far, and what a search adds to it.
 -- Names: `judged_LAW` of what was judged so far.
 use Rattle.std.proofs.Common.{◌≡◌, ℕ, zero, suc, ◌+◌, ◌∙◌, ◌-◌, ◌<◌, ◌≤◌, Bool, true, false, cond, nat_lt, Option, Some, None, IfSome, List, [], ◌∷◌, ◌++◌, length, drop, inl, inr, refl, sym, ap, subst, append_assoc, arith}
 use Rattle.std.proofs.lemmas.Bool.{cases_lt, ltb-false, ltb-true}
@@ -11,9 +11,9 @@ use Rattle.sf_core.specs.Program.View.{procedure_of}
 use Rattle.sf_precise.specs.declared.arranged.Arranged.{Arranged}
 use Rattle.sf_rules.specs.Setting.{Setting, setting_of}
 use Rattle.sf_search.specs.declared.verdicts.SearchFault.{SearchFault}
-use Rattle.sf_search.specs.declared.verdicts.SearchFault.TheVariants.{Stuck, TooLarge, OutOfMemory}
-use Rattle.sf_search.specs.Strategy.{Kind}
-use Rattle.sf_search.specs.Ends.{EndsAs, FailsAs, FailsFor, cause_of, failure, kind_of}
+use Rattle.sf_search.specs.declared.verdicts.SearchFault.TheVariants.{Stuck as Halted, TooLarge, OutOfMemory}
+use Rattle.sf_sym.specs.declared.stuck.Stuck.{Stuck}
+use Rattle.sf_search.specs.Ends.{EndsAs, FailsAs, FailsFor, cause_of, failure}
 use Rattle.sf_rules.specs.First.{first_goal}
 use Rattle.sf_search.specs.Judge.{Judge, JudgedAfter, JudgeFrom, Outcome, Search, Verdict, fails, large, proof, proved, stuck, stuck_at, too_large, with_prefix}
 use Rattle.sf_sym.specs.declared.tag.Tag.{Tag}
@@ -60,7 +60,7 @@ module _ (d : Setting) (spent k : ℕ) (tags : List Tag) (x : Procedure)
         → FILE_TAGS < spent + length found → Judge d (fails (record { 0 = k }) too_large)
     judged_over found o s l = judged-by found o (fails (record { 0 = k }) too_large) s (inr (l, refl))
 
-    pub judged_stuck : (found : List Tag) (g : Goal) (kind : Kind)
+    pub judged_stuck : (found : List Tag) (g : Goal) (kind : Stuck)
         → Search d (first_goal d (record { 0 = k }) x) found (stuck g kind) → spent + length found ≤ FILE_TAGS
         → Judge d (fails (record { 0 = k }) (stuck_at g kind (length found)))
     judged_stuck found g kind s l =
@@ -77,16 +77,16 @@ module _ (d : Setting) (spent k : ℕ) (tags : List Tag) (x : Procedure)
     -- a search that found no proof
     pub judged_fault : (e : SearchFault) → spent ≤ FILE_TAGS → EndsAs d (first_goal d (record { 0 = k }) x) e
         → FailsAs d (failure spent (record { 0 = k }) e)
-    judged_fault (Stuck goal kind before) l w = go (nat_lt (FILE_TAGS - spent) before) refl
+    judged_fault (Halted goal kind before) l w = go (nat_lt (FILE_TAGS - spent) before) refl
       where
         go : (b : Bool) → nat_lt (FILE_TAGS - spent) before ≡ b
-            → FailsFor d (record { 0 = k }) (cause_of (cond b TooLarge (Stuck goal kind before)))
+            → FailsFor d (record { 0 = k }) (cause_of (cond b TooLarge (Halted goal kind before)))
         go true i =
-            judged_over w.0 (stuck (goal_of goal) (kind_of kind)) w.2
+            judged_over w.0 (stuck (goal_of goal) kind) w.2
             (omega (arith, ltb-true (FILE_TAGS - spent) before i, w.1, l))
         go false i =
-            subst (λ m. Judge d (fails (record { 0 = k }) (stuck_at (goal_of goal) (kind_of kind) m))) w.1
-            (judged_stuck w.0 (goal_of goal) (kind_of kind) w.2
+            subst (λ m. Judge d (fails (record { 0 = k }) (stuck_at (goal_of goal) kind m))) w.1
+            (judged_stuck w.0 (goal_of goal) kind w.2
             (omega (arith, ltb-false (FILE_TAGS - spent) before i, w.1, l)))
     judged_fault TooLarge l w = judged_large w.0 w.1
     judged_fault OutOfMemory l w = tt
@@ -104,12 +104,6 @@ pub setting_length : (d : Setting) (a : Arranged) → d ≡ setting_of d.ordered
 setting_length d a e =
     ap (λ (s : Setting). length s.program.procedures) e ∙ length-map a.program.procedures.items procedure_of
 
-pub drop_all : {X : Type 0} (xs : List X) (i : ℕ) → length xs ≤ i → drop i xs ≡ []
-drop_all [] zero l = refl
-drop_all [] (suc i) l = refl
-drop_all (x ∷ xs) zero l = absurd (omega (arith, l))
-drop_all (x ∷ xs) (suc i) l = drop_all xs i (omega (arith, l))
-
 -- the procedure of that number
 pub at_index : {X : Type 0} (xs : List X) (i : ℕ) → i < length xs
     → (x : X) × (slice_get xs i ≡ Some x) × (drop i xs ≡ x ∷ drop (suc i) xs)
@@ -117,6 +111,7 @@ at_index [] i l = absurd (omega (arith, l))
 at_index (x ∷ xs) zero l = (x, refl, refl)
 at_index (x ∷ xs) (suc i) l = at_index xs i (omega (arith, l))
 
+-- what is said of the value that may be there, where it is known which one is
 pub some_at : {X : Type 0} (P : X → Type 0) (o : Option X) (x : X) → o ≡ Some x → IfSome o P → P x
 some_at P None x e h = absurd (cc)
 some_at P (Some y) x e h = subst P (same_Some y x e) h
