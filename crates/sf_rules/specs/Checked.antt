@@ -5,6 +5,7 @@ pub mod Examples
 pub mod ExamplesOfBodies
 pub mod ExamplesOfConjuncts
 pub mod ExamplesOfInit
+pub mod Few
 pub mod Front
 pub mod LawsOfCommands
 pub mod LawsOfConjuncts
@@ -13,4 +14,5 @@ pub mod LawsOfSettings
 pub mod LawsOfShape
 pub mod Lemmas
 pub mod RowCases
+pub mod Rows
 pub mod Terms

@@ -16,12 +16,12 @@ use Rattle.sf_core.specs.declared.fields.Links.{Links}
 use Rattle.sf_core.specs.Program.Syntax.{new, Conjunct, holds, points, segment, tree, choose, Conjuncts, none, also}
 use Rattle.sf_normal.specs.Knowledge.{unroll_one, unroll_row, unrolled}
 use Rattle.sf_produce.specs.Add.{added, add_first, goal_after, met, met_both, met_existential, met_fields}
-use Rattle.sf_rules.specs.Few.{has_numbers}
+use Rattle.sf_rules.specs.Rules.{has_numbers, with_var}
 use Rattle.sf_rules.specs.Checked.Lemmas.{few-left}
-use Rattle.sf_rules.specs.Rows.Add.{assume_row}
-use Rattle.sf_rules.specs.Rows.Commands.{new_row, with_var}
-use Rattle.sf_rules.specs.Rows.Front.{at_add, at_command}
-use Rattle.sf_rules.specs.Rows.Whole.{row, row_of}
+use Rattle.sf_rules.specs.Checked.Rows.Add.{assume_row}
+use Rattle.sf_rules.specs.Checked.Rows.Commands.{new_row}
+use Rattle.sf_rules.specs.Checked.Rows.Front.{at_add, at_command}
+use Rattle.sf_rules.specs.Checked.Rows.Whole.{row, row_of}
 use Rattle.sf_rules.specs.Setting.{Setting}
 use Rattle.sf_search.proofs.Fewer.{all-fewer, fewer_possible, fewer_settled, without-fewer}
 use Rattle.sf_search.proofs.Grown.{grown-bare, grown-roots, grown-settled, known-end, known-more}

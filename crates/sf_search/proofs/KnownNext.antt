@@ -1,7 +1,7 @@
 -- What a search knows of the next goal's state is so.
 -- Names: `known_of_first` of the first of the open goals.
 use Rattle.std.proofs.Common.{◌≡◌, Some, List, ◌∷◌, ◌++◌, sym, subst}
-use Rattle.sf_rules.specs.Rows.Whole.{row}
+use Rattle.sf_rules.specs.Checked.Rows.Whole.{row}
 use Rattle.sf_rules.specs.Setting.{Setting}
 use Rattle.sf_search.proofs.Growing.{first_left_known, first_left_possible, first_left_settled}
 use Rattle.sf_search.proofs.Sole.{Numbers}

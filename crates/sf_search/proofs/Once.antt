@@ -4,7 +4,7 @@ use Rattle.std.proofs.Common.{◌≡◌, ℕ, suc, ◌+◌, ◌≤◌, inl, inr,
 use Rattle.sf_base.specs.declared.limits.TheConstants.{PROCEDURE_TAGS}
 use Rattle.sf_core.specs.Program.Syntax.{Procedure}
 use Rattle.sf_rules.specs.Checked.Lemmas.RuleRows.{leaves-row}
-use Rattle.sf_rules.specs.Rows.Whole.{row}
+use Rattle.sf_rules.specs.Checked.Rows.Whole.{row}
 use Rattle.sf_rules.specs.Rules.{Leaves}
 use Rattle.sf_rules.specs.Setting.{Setting}
 use Rattle.sf_search.specs.Strategy.{Kind, chooses, stays, takes}

@@ -7,7 +7,7 @@ use Rattle.sf_base.proofs.Elements.{all_by-append, contains-cons}
 use Rattle.sf_base.specs.declared.limits.TheConstants.{PROCEDURE_TAGS}
 use Rattle.sf_rules.specs.Checked.Lemmas.RowRules.{row-leaves}
 use Rattle.sf_rules.specs.Checked.Lemmas.RuleRows.{leaves-row}
-use Rattle.sf_rules.specs.Rows.Whole.{row}
+use Rattle.sf_rules.specs.Checked.Rows.Whole.{row}
 use Rattle.sf_rules.specs.Setting.{Setting}
 use Rattle.sf_rules.specs.Shape.{IsGoalAfter}
 use Rattle.sf_search.proofs.Taken.{taken_tags_have_rows}

@@ -10,7 +10,7 @@ use Rattle.sf_core.specs.declared.assertion.Test.{Test}
 use Rattle.sf_core.specs.declared.assertion.Test.TheVariants.{True, Equal, Differ}
 use Rattle.sf_core.specs.Program.Formed.{TestWithin}
 use Rattle.sf_normal.specs.Knowledge.{split_row, unroll_one, unrolled_segment, unrolled_tree}
-use Rattle.sf_rules.specs.Rows.Whole.{row_of}
+use Rattle.sf_rules.specs.Checked.Rows.Whole.{row_of}
 use Rattle.sf_rules.specs.Setting.{Setting}
 use Rattle.sf_rules.specs.Shape.{HasLinks}
 use Rattle.sf_search.proofs.Found.{all-append, all-at, cell-of_atom, found-among, found-at, found-none}

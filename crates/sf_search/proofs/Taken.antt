@@ -20,15 +20,16 @@ use Rattle.sf_core.specs.declared.command.Expr.{Expr}
 use Rattle.sf_core.specs.Program.Formed.{TestWithin}
 use Rattle.sf_core.specs.Program.Syntax.{Command, assign, look_up, mutate, new, dispose, if, while, call, fork, with, Conjunct, holds, points, segment, tree, choose, Conjuncts, none, also}
 use Rattle.sf_rules.specs.declared.few.TheConstants.{TOO_MANY}
-use Rattle.sf_rules.specs.Few.{if_few}
+use Rattle.sf_rules.specs.Checked.Few.{if_few}
 use Rattle.sf_produce.specs.Add.{operands}
-use Rattle.sf_rules.specs.Rows.Calls.{called, forked}
-use Rattle.sf_rules.specs.Rows.Commands.{looked}
-use Rattle.sf_rules.specs.Rows.Loops.{unknown_in}
-use Rattle.sf_rules.specs.Rows.Regions.{entered, variables_from}
-use Rattle.sf_rules.specs.Rows.Take.{subtract_row}
+use Rattle.sf_rules.specs.Checked.Rows.Calls.{called, forked}
+use Rattle.sf_rules.specs.Checked.Rows.Commands.{looked}
+use Rattle.sf_rules.specs.Rules.{unknown_in}
+use Rattle.sf_rules.specs.Checked.Rows.Regions.{entered}
+use Rattle.sf_rules.specs.Resources.{variables_from}
+use Rattle.sf_rules.specs.Checked.Rows.Take.{subtract_row}
 use Rattle.sf_rules.specs.Checked.Lemmas.RowRules.{row-leaves}
-use Rattle.sf_rules.specs.Rows.Whole.{row, row_of}
+use Rattle.sf_rules.specs.Checked.Rows.Whole.{row, row_of}
 use Rattle.sf_rules.specs.Setting.{Setting}
 use Rattle.sf_search.proofs.Found.{found-at, found-forced}
 use Rattle.sf_rules.specs.Checked.Lemmas.FreshVariables.{few-filtered, fresh-length, term-below, variables-length}

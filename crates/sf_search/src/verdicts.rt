@@ -7,7 +7,7 @@ ghost use Rattle.sf_base.specs.Results.{Appends};
 ghost use Rattle.sf_precise.specs.Order.{IsOrdering};
 ghost use Rattle.sf_rules.specs.First.{first_goal as first_of};
 ghost use Rattle.sf_rules.specs.Checked.Children.{children_of, stack_of};
-ghost use Rattle.sf_rules.specs.Rows.Whole.{row};
+ghost use Rattle.sf_rules.specs.Checked.Rows.Whole.{row};
 ghost use Rattle.sf_rules.specs.Setting.{Setting, setting_of};
 ghost use Rattle.sf_search.specs.Checked.Growth.{staying};
 ghost use Rattle.sf_search.specs.Checked.Knowing.{IsKnownAfter};

@@ -20,7 +20,7 @@ use Rattle.sf_core.specs.declared.command.Expr.{Expr}
 use Rattle.sf_core.specs.declared.command.Expr.TheVariants.{Var as Variable, Nil as ENil, Int as EInt}
 use Rattle.sf_core.specs.declared.command.Occurrence.{Occurrence}
 use Rattle.sf_core.specs.Program.Syntax.{Call, Procedure}
-use Rattle.sf_rules.specs.Rows.Calls.{callee_term, own_term, term_before, term_by}
+use Rattle.sf_rules.specs.Callee.{callee_term, own_term, term_before, term_by}
 use Rattle.sf_rules.specs.Setting.{Setting}
 use Rattle.sf_rules.specs.Words.{pending_assertion}
 use Rattle.sf_safe.specs.Checked.Local.{Lends, Local, arguments_in, callee_value, look, own_value, value_in}

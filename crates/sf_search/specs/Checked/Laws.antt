@@ -3,8 +3,7 @@
 -- Ordinary: the strategy is a function, as the rules say it, too, and a search ends at its limit.
 use Rattle.std.specs.Prelude.{◌≡◌, true, List}
 use Rattle.sf_rules.specs.Checked.LawsOfShape.{IsSetUp}
-use Rattle.sf_rules.specs.Few.{has_numbers}
-use Rattle.sf_rules.specs.Rules.{Leaves}
+use Rattle.sf_rules.specs.Rules.{has_numbers, Leaves}
 use Rattle.sf_rules.specs.Setting.{Setting}
 use Rattle.sf_rules.specs.Shape.{IsShaped}
 use Rattle.sf_search.specs.Strategy.{chooses, takes}

@@ -20,19 +20,18 @@ use Rattle.sf_produce.specs.Add.{Met, met, met_existential, met_fields}
 use Rattle.sf_rules.specs.declared.few.TheConstants.{TOO_MANY}
 use Rattle.sf_rules.specs.Checked.Lemmas.FreshVariables.{fresh-length}
 use Rattle.sf_rules.specs.Checked.Lemmas.RuleRows.{fields-same, fit, term-self}
-use Rattle.sf_rules.specs.Few.{has_numbers}
-use Rattle.sf_rules.specs.Rows.Add.{assume_row}
-use Rattle.sf_rules.specs.Rows.Branches.{branch_row, chosen}
-use Rattle.sf_rules.specs.Rows.Calls.{call_row, called, fork_row, forked, give_row}
-use Rattle.sf_rules.specs.Rows.Commands.{assign_row, dispose_row, look_row, looked, mutate_row, new_row}
-use Rattle.sf_rules.specs.Rows.Ends.{end_row, is_empty, return_row}
-use Rattle.sf_rules.specs.Rows.Front.{at_add, at_again, at_command, at_end, at_exit, at_gave, at_head, at_return, at_take}
-use Rattle.sf_rules.specs.Rows.Loops.{again_row, around_row, loop_row}
-use Rattle.sf_rules.specs.Rows.Regions.{enter_row, entered, exit_row}
-use Rattle.sf_rules.specs.Rows.Take.{subtract_row}
-use Rattle.sf_rules.specs.Rows.Whole.{row, row_of}
+use Rattle.sf_rules.specs.Rules.{has_numbers, Leaves, Rule, Spans, list_spans, tree_spans, Goes, command_goes, assumed_goes, shown_goes, Meets, has, met_first, MeetsAll, all_met, one_met, FieldIs, known, missing, Fits, all_fit, fits_known, fits_new, Wanted, list_wanted, tree_wanted, needed, needed_to_assume, needed_to_show, next_at, assume, assume_rest, show, show_rest, ◌⊢◌}
+use Rattle.sf_rules.specs.Checked.Rows.Add.{assume_row}
+use Rattle.sf_rules.specs.Checked.Rows.Branches.{branch_row, chosen}
+use Rattle.sf_rules.specs.Checked.Rows.Calls.{call_row, called, fork_row, forked, give_row}
+use Rattle.sf_rules.specs.Checked.Rows.Commands.{assign_row, dispose_row, look_row, looked, mutate_row, new_row}
+use Rattle.sf_rules.specs.Checked.Rows.Ends.{end_row, is_empty, return_row}
+use Rattle.sf_rules.specs.Checked.Rows.Front.{at_add, at_again, at_command, at_end, at_exit, at_gave, at_head, at_return, at_take}
+use Rattle.sf_rules.specs.Checked.Rows.Loops.{again_row, around_row, loop_row}
+use Rattle.sf_rules.specs.Checked.Rows.Regions.{enter_row, entered, exit_row}
+use Rattle.sf_rules.specs.Checked.Rows.Take.{subtract_row}
+use Rattle.sf_rules.specs.Checked.Rows.Whole.{row, row_of}
 use Rattle.sf_rules.specs.Rules as rule
-use Rattle.sf_rules.specs.Rules.{Leaves, Rule, Spans, list_spans, tree_spans, Goes, command_goes, assumed_goes, shown_goes, Meets, has, met_first, MeetsAll, all_met, one_met, FieldIs, known, missing, Fits, all_fit, fits_known, fits_new, Wanted, list_wanted, tree_wanted, needed, needed_to_assume, needed_to_show, next_at, assume, assume_rest, show, show_rest, ◌⊢◌}
 use Rattle.sf_rules.specs.Setting.{Setting}
 use Rattle.sf_sym.specs.Below.{is_below}
 use Rattle.sf_sym.specs.Cells.{atom_at, cell_at, fields_at, handed, state_after_write, with_atom, with_cell, without}

@@ -12,8 +12,8 @@ use Rattle.sf_core.specs.declared.assertion.Operand.TheVariants.{Known, Exists}
 use Rattle.sf_produce.specs.Add.{Met, MetFields, met, met_fields}
 use Rattle.sf_rules.specs.Checked.Lemmas.FreshVariables.{fresh-length}
 use Rattle.sf_rules.specs.declared.few.TheConstants.{TOO_MANY}
-use Rattle.sf_rules.specs.Rows.Branches.{branch_row}
-use Rattle.sf_rules.specs.Rows.Whole.{row, row_of}
+use Rattle.sf_rules.specs.Checked.Rows.Branches.{branch_row}
+use Rattle.sf_rules.specs.Checked.Rows.Whole.{row, row_of}
 use Rattle.sf_rules.specs.Rules as rule
 use Rattle.sf_rules.specs.Rules.{Leaves, Rule, Spans, list_spans, tree_spans, Goes, command_goes, assumed_goes, shown_goes, Meets, has, met_first, MeetsAll, all_met, one_met, FieldIs, known, missing, Fits, all_fit, fits_known, fits_new, list_wanted, tree_wanted, needed, next_at, ◌⊢◌}
 use Rattle.sf_rules.specs.Setting.{Setting}

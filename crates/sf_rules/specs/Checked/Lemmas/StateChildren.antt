@@ -17,7 +17,7 @@ use Rattle.sf_core.specs.declared.fields.Links.{Links}
 use Rattle.sf_core.specs.Program.Syntax.{Conjunct, holds, points, segment, tree, choose, Conjuncts, none, also}
 use Rattle.sf_normal.specs.Knowledge.{absurd_row, drop_row, force_row, split_row, unroll_row, unrolled, unrolled_segment, unrolled_tree}
 use Rattle.sf_produce.specs.Add.{add_first, add_row, added, goal_after, met, met_both, met_existential, met_fields}
-use Rattle.sf_rules.specs.Rows.Branches.{branch_row, chosen}
+use Rattle.sf_rules.specs.Checked.Rows.Branches.{branch_row, chosen}
 use Rattle.sf_rules.specs.Checked.Lemmas.CommandChildren.{IsOrdered}
 use Rattle.sf_rules.specs.Checked.Lemmas.Forms.{adding-assuming, same-form, with-form}
 use Rattle.sf_rules.specs.Checked.Lemmas.VariableTerms.{map-listed, map-order}

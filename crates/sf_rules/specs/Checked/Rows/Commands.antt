@@ -5,17 +5,13 @@ use Rattle.std.specs.Option.{option_and_then, option_map}
 use Rattle.sf_base.specs.declared.ids.FieldId.{FieldId}
 use Rattle.sf_base.specs.declared.ids.Var.{Var}
 use Rattle.sf_core.specs.Program.Syntax.{Command, assign, look_up, mutate, new, dispose}
+use Rattle.sf_rules.specs.Rules.{with_var}
 use Rattle.sf_sym.specs.declared.term.Term.{Term}
 use Rattle.sf_sym.specs.declared.term.Term.TheVariants.{Sym}
 use Rattle.sf_sym.specs.Cells.{cell_at, state_after_write, with_cell, without}
 use Rattle.sf_sym.specs.Fields.{field_term}
 use Rattle.sf_sym.specs.Goal.{Item, Goal, one_goal}
 use Rattle.sf_sym.specs.State.{State, term, with_symbols}
-use Rattle.sf_sym.specs.Variables.{set_var}
-
--- the state in which the variable has that term
-abbrev pub with_var : Var → Term → State → State
-with_var x t s = record s { vars = set_var x t s.vars }
 
 -- assign: the variable has the expression's term
 abbrev pub assign_row : State → Command → List Item → Option (List Goal)

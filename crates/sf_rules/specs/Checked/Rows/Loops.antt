@@ -2,7 +2,6 @@
 -- Berdine, Calcagno, O'Hearn, "Smallfoot" (2005): an invariant is handed over, and taken up again by the body and by
 -- what comes after the loop.
 use Rattle.std.specs.Prelude.{Option, Some, None, List, [], ◌∷◌, ◌++◌, length}
-use Rattle.std.specs.List.{filter}
 use Rattle.sf_base.specs.declared.ids.Var.{Var}
 use Rattle.sf_base.specs.declared.place.Place.{Place}
 use Rattle.sf_core.specs.declared.assertion.Test.{Test}
@@ -11,11 +10,10 @@ use Rattle.sf_core.specs.declared.command.Expr.TheVariants.{Nil as ENil}
 use Rattle.sf_core.specs.Program.Syntax.{Assertion, Block, Command, while}
 use Rattle.sf_sym.specs.Goal.{Item, head, again, end, Goal, one_goal, to_run}
 use Rattle.sf_sym.specs.State.{State, term}
-use Rattle.sf_calls.specs.Changes.{changes_in}
+use Rattle.sf_rules.specs.Rules.{unknown_in}
 use Rattle.sf_rules.specs.Setting.{Setting}
-use Rattle.sf_rules.specs.Few.{if_few}
+use Rattle.sf_rules.specs.Checked.Few.{if_few}
 use Rattle.sf_rules.specs.Words.{negation, to_add, to_add_test, to_take}
-use Rattle.sf_sym.specs.Ready.{is_listed}
 use Rattle.sf_sym.specs.Variables.{with_fresh}
 
 -- loop: the invariant is due, and then the loop begins
@@ -39,12 +37,6 @@ after_loop d s p t invariant rest = record {
   todo = to_add p (term s.vars) (d.ordered invariant)
       ++ (to_add_test p (term s.vars) (negation ENil t) ++ rest);
 }
-
--- the variables that a loop's body leaves unknown in that state, in order of number: of those that
--- it may change the ones that have a term there. A variable that is in reach only inside a region of
--- the body has none
-abbrev pub unknown_in : Setting → State → Block → List Var
-unknown_in d s body = filter (is_listed s.vars) (changes_in d.sets body)
 
 -- around: these variables are unknown. First the body once, second what comes after the loop
 abbrev pub around_with : Setting → (unknown : List Var) → State → Place → Test Expr

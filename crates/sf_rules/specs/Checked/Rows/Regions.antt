@@ -1,26 +1,21 @@
 -- The rows of critical regions: enter, exit.
 -- O'Hearn, "Resources, Concurrency and Local Reasoning" (2007): the invariant is lent for the region.
-use Rattle.std.specs.Prelude.{ℕ, suc, Option, None, List, [], ◌∷◌, ◌++◌, length}
+use Rattle.std.specs.Prelude.{Option, None, List, [], ◌∷◌, ◌++◌, length}
 use Rattle.std.specs.List.{slice_get}
 use Rattle.std.specs.Option.{option_and_then}
 use Rattle.sf_base.specs.declared.ids.ResId.{ResId}
 use Rattle.sf_base.specs.declared.ids.Var.{Var}
-use Rattle.sf_base.specs.declared.ids.Var.TheVariants.{Shared}
 use Rattle.sf_base.specs.declared.place.Place.{Place}
 use Rattle.sf_core.specs.declared.assertion.Test.{Test}
 use Rattle.sf_core.specs.declared.command.Expr.{Expr}
 use Rattle.sf_core.specs.Program.Syntax.{Assertion, Command, with, Block, Resource}
 use Rattle.sf_sym.specs.Goal.{Item, gave, exit, Goal, one_goal, to_run}
 use Rattle.sf_sym.specs.State.{State, term}
-use Rattle.sf_rules.specs.Few.{if_few}
+use Rattle.sf_rules.specs.Checked.Few.{if_few}
+use Rattle.sf_rules.specs.Resources.{variables_from}
 use Rattle.sf_rules.specs.Setting.{Setting}
 use Rattle.sf_rules.specs.Words.{to_add, to_add_test, to_take}
 use Rattle.sf_sym.specs.Variables.{with_fresh}
-
--- the variables of a resource, which has these names, from that number on
-abbrev pub variables_from : ResId → ℕ → List (List ℕ) → List Var
-variables_from r i [] = []
-variables_from r i (name ∷ names) = Shared r i ∷ variables_from r (suc i) names
 
 -- enter: the resource's variables are there, with unknown values; its invariant and the condition are assumed
 abbrev pub entered_with : State → Place → List Var → (invariant : Assertion) → Test Expr → List Item

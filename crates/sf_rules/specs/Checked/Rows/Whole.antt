@@ -2,20 +2,20 @@
 -- Berdine, Calcagno, O'Hearn, "Symbolic Execution with Separation Logic" (2005) and "Smallfoot" (2005); O'Hearn
 -- (2007) for regions and parallel calls.
 use Rattle.std.specs.Prelude.{cond, Option, None, List}
-use Rattle.sf_rules.specs.Few.{has_numbers}
-use Rattle.sf_rules.specs.Rows.Add.{assume_row}
+use Rattle.sf_rules.specs.Rules.{has_numbers}
+use Rattle.sf_rules.specs.Checked.Rows.Add.{assume_row}
 use Rattle.sf_sym.specs.declared.tag.Tag.{Tag}
 use Rattle.sf_sym.specs.declared.tag.Tag.TheVariants as t
 use Rattle.sf_sym.specs.Goal.{Goal}
-use Rattle.sf_rules.specs.Rows.Branches.{then_row, else_row}
-use Rattle.sf_rules.specs.Rows.Calls.{call_row, fork_row, give_row}
-use Rattle.sf_rules.specs.Rows.Commands.{assign_row, look_row, mutate_row, new_row, dispose_row}
-use Rattle.sf_rules.specs.Rows.Ends.{return_row, end_row}
+use Rattle.sf_rules.specs.Checked.Rows.Branches.{then_row, else_row}
+use Rattle.sf_rules.specs.Checked.Rows.Calls.{call_row, fork_row, give_row}
+use Rattle.sf_rules.specs.Checked.Rows.Commands.{assign_row, look_row, mutate_row, new_row, dispose_row}
+use Rattle.sf_rules.specs.Checked.Rows.Ends.{return_row, end_row}
 use Rattle.sf_normal.specs.Knowledge.{absurd_row, drop_row, force_row, split_row, unroll_row}
-use Rattle.sf_rules.specs.Rows.Front.{at_command, at_add, at_take, at_gave, at_head, at_again, at_exit, at_return, at_end}
-use Rattle.sf_rules.specs.Rows.Loops.{loop_row, around_row, again_row}
-use Rattle.sf_rules.specs.Rows.Regions.{enter_row, exit_row}
-use Rattle.sf_rules.specs.Rows.Take.{subtract_row}
+use Rattle.sf_rules.specs.Checked.Rows.Front.{at_command, at_add, at_take, at_gave, at_head, at_again, at_exit, at_return, at_end}
+use Rattle.sf_rules.specs.Checked.Rows.Loops.{loop_row, around_row, again_row}
+use Rattle.sf_rules.specs.Checked.Rows.Regions.{enter_row, exit_row}
+use Rattle.sf_rules.specs.Checked.Rows.Take.{subtract_row}
 use Rattle.sf_rules.specs.Setting.{Setting}
 
 -- the rows of the table; `procedure` begins a proof and has none

@@ -7,7 +7,7 @@ use Rattle.sf_consume.specs.Subtract.{new_symbols, subtracted}
 use Rattle.sf_consume.specs.Wants.{still_wanted, wanting}
 use Rattle.sf_sym.specs.Goal.{Item, Goal, one_goal, taking}
 use Rattle.sf_sym.specs.Pending.{Pending}
-use Rattle.sf_rules.specs.Few.{if_few}
+use Rattle.sf_rules.specs.Checked.Few.{if_few}
 use Rattle.sf_sym.specs.State.{State}
 use Rattle.sf_sym.specs.declared.tag.Tag.{Tag}
 

@@ -6,7 +6,7 @@ use Rattle.sf_produce.specs.Add.{add_row, operands}
 use Rattle.sf_sym.specs.Goal.{Item, Goal}
 use Rattle.sf_sym.specs.Pending.{Pending}
 use Rattle.sf_sym.specs.State.{State}
-use Rattle.sf_rules.specs.Few.{if_few}
+use Rattle.sf_rules.specs.Checked.Few.{if_few}
 
 -- add: the first conjunct to assume is assumed
 abbrev pub assume_row : State → Place → Pending → List Item → Option (List Goal)
