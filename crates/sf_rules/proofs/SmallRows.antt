@@ -145,7 +145,7 @@ known_terms_are_apart d = (yes refl, no refl)
 
 pub wanted_cells_are_handed_over : WantedCellsAreHandedOver
 unfolding WantedCellsAreHandedOver
-wanted_cells_are_handed_over d = (yes refl, yes refl, no refl, no refl, no refl)
+wanted_cells_are_handed_over d = (yes refl, yes refl, no refl, no refl, no refl, yes refl, no refl)
 
 pub empty_parts_need_nothing : EmptyPartsNeedNothing
 unfolding EmptyPartsNeedNothing
