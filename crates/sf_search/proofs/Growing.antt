@@ -32,7 +32,8 @@ use Rattle.sf_search.proofs.StillKnown.{known-stays, roots-without}
 use Rattle.sf_search.specs.declared.choices.growth.Size.{Size}
 use Rattle.sf_search.specs.Checked.Growth.{IsFirstKnown, IsKnown, IsOpenedFree, came_bare, grown_bare, grown_roots, grows_settled, has_no_cells, has_settled_growth, is_settled_growth, known_end, leaves_bare, leaves_roots, leaves_settled, roots_came, staying}
 use Rattle.sf_search.specs.Checked.Settled.{IsFirstPossible, IsFirstSettled, IsSettled, keeps_settled, leaves_possible}
-use Rattle.sf_search.specs.Strategy.{chooses, takes}
+use Rattle.sf_search.specs.Checked.Chooses.{chooses}
+use Rattle.sf_search.specs.Strategy.{takes}
 use Rattle.sf_sym.specs.Cells.{atom_at, apart_from_nil, with_atom, with_cell, without}
 use Rattle.sf_sym.specs.declared.atom.Atom.{Atom}
 use Rattle.sf_sym.specs.declared.atom.Atom.TheVariants.{Points, Ls, Tree}

@@ -28,7 +28,8 @@ use Rattle.sf_rules.specs.Setting.{Setting}
 use Rattle.sf_search.proofs.Fewer.{all-fewer, cell-atom, Fewer, fewer_settled, handed-settled, none-fewer, without-fewer}
 use Rattle.sf_search.proofs.Settled.{bare, settled-by, settled-same, stripped, written-stripped}
 use Rattle.sf_search.specs.Checked.Settled.{IsFirstSettled, IsSettled, keeps_settled}
-use Rattle.sf_search.specs.Strategy.{chooses, takes}
+use Rattle.sf_search.specs.Checked.Chooses.{chooses}
+use Rattle.sf_search.specs.Strategy.{takes}
 use Rattle.sf_sym.specs.Cells.{atom_at, cell_at, handed, state_after_write, with_fields, without}
 use Rattle.sf_sym.specs.Decided.{term_of}
 use Rattle.sf_sym.specs.declared.atom.Atom.{Atom}

@@ -9,7 +9,8 @@ use Rattle.sf_search.specs.declared.verdicts.Known.{Known}
 use Rattle.sf_search.specs.Checked.Growth.{IsFirstKnown, leaves_roots, staying}
 use Rattle.sf_search.specs.Checked.Knowing.{IsKnownAfter, IsKnownOfFirst}
 use Rattle.sf_search.specs.Checked.Settled.{IsFirstPossible, IsFirstSettled}
-use Rattle.sf_search.specs.Strategy.{chooses, takes}
+use Rattle.sf_search.specs.Checked.Chooses.{chooses}
+use Rattle.sf_search.specs.Strategy.{takes}
 use Rattle.sf_sym.specs.declared.tag.Tag.{Tag}
 use Rattle.sf_sym.specs.Goal.{Goal}
 

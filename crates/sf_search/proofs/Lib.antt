@@ -3,6 +3,7 @@ pub mod Views
 pub mod Trees
 pub mod Once
 pub mod Found
+pub mod Told
 pub mod GoalShapes
 pub mod Rows
 pub mod Taken

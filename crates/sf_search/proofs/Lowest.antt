@@ -13,7 +13,8 @@ use Rattle.sf_sym.specs.declared.term.Term.{Term}
 use Rattle.sf_sym.specs.Known.{first_forced, first_nothing, is_nothing, or_else as first}
 use Rattle.sf_sym.specs.Numbers.{AreRising, numbers}
 use Rattle.sf_sym.specs.State.{State}
-use Rattle.sf_search.specs.Strategy.{Choice, forced_ends, found_or, lower, lowest, lowest_forced, or_else, takes, takes_if, which}
+use Rattle.sf_search.specs.Checked.Chooses.{found_or, takes_if}
+use Rattle.sf_search.specs.Strategy.{Choice, forced_ends, lower, lowest, lowest_forced, or_else, takes, which}
 
 -- a number below another isn't above it
 not-above : (m n : ℕ) (b : Bool) → n < m → nat_lt m n ≡ b → b ≡ false

@@ -14,7 +14,8 @@ use Rattle.sf_rules.specs.Checked.Rows.Whole.{row_of}
 use Rattle.sf_rules.specs.Setting.{Setting}
 use Rattle.sf_rules.specs.Shape.{HasLinks}
 use Rattle.sf_search.proofs.Found.{all-append, all-at, cell-of_atom, found-among, found-at, found-none}
-use Rattle.sf_search.specs.Strategy.{Choice, Kind, at_cell, at_test, found_or, lowest, opened, opened_by, opened_first, or_else, segment_at, split_by, split_found, split_or, stays, takes, takes_if, tree_at, undecided_ends, which}
+use Rattle.sf_search.specs.Checked.Chooses.{at_cell, at_test, found_or, opened, opened_by, opened_first, split_by, split_found, split_or, takes_if}
+use Rattle.sf_search.specs.Strategy.{Choice, Kind, lowest, or_else, segment_at, stays, takes, tree_at, undecided_ends, which}
 use Rattle.sf_search.proofs.GoalShapes.{IsReady}
 use Rattle.sf_sym.specs.Below.{AllInAtom, AllInAtoms, IsBelow, is_below}
 use Rattle.sf_sym.specs.Cells.{atom_at, cell_at, fields_at}

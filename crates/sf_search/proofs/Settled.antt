@@ -20,7 +20,8 @@ use Rattle.sf_sym.specs.Checked.Lemmas.{points_at}
 use Rattle.sf_sym.specs.State.{State}
 use Rattle.sf_sym.specs.Tests.{allocated, allocates, has_cell, has_repeat, is_absurd, is_constant, is_impossible, is_left_out, parts, root, same_term}
 use Rattle.sf_search.specs.Checked.Settled.{IsSettled}
-use Rattle.sf_search.specs.Strategy.{at_items, chooses, forced_ends, lower, lowest, lowest_forced, or_else, takes, takes_if, which}
+use Rattle.sf_search.specs.Checked.Chooses.{at_items, chooses, takes_if}
+use Rattle.sf_search.specs.Strategy.{forced_ends, lower, lowest, lowest_forced, or_else, takes, which}
 
 -- an atom without its fields
 abbrev pub bare : Atom → Atom

@@ -12,7 +12,8 @@ use Rattle.sf_search.proofs.Fewer.{any-fewer, each-fewer, found, lower-none, map
 use Rattle.sf_search.proofs.Grown.{and-none, any-less, begins, same-self}
 use Rattle.sf_search.specs.Checked.Holding.{IsOpened, IsSoleCell}
 use Rattle.sf_search.specs.Checked.Settled.{IsSettled}
-use Rattle.sf_search.specs.Strategy.{forced_ends, lower, lowest, lowest_forced, opened_first, segment_at, takes, tree_at, which}
+use Rattle.sf_search.specs.Checked.Chooses.{opened_first}
+use Rattle.sf_search.specs.Strategy.{forced_ends, lower, lowest, lowest_forced, segment_at, takes, tree_at, which}
 use Rattle.sf_sym.specs.Cells.{atom_at, fields_at, without}
 use Rattle.sf_sym.specs.declared.atom.Atom.{Atom}
 use Rattle.sf_sym.specs.declared.atom.Atom.TheVariants.{Points, Ls, Tree}

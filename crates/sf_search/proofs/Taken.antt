@@ -34,8 +34,10 @@ use Rattle.sf_rules.specs.Setting.{Setting}
 use Rattle.sf_search.proofs.Found.{found-at, found-forced}
 use Rattle.sf_rules.specs.Checked.Lemmas.FreshVariables.{few-filtered, fresh-length, term-below, variables-length}
 use Rattle.sf_search.proofs.Rows.{Good, GoodIf, NoneIsNothing, cell-found, good-at_cell, good-at_test, good-if, good-map, good-or, good-split, good-split_or, segment-is}
-use Rattle.sf_search.specs.Strategy.{at_choice, at_command, at_end, at_equality, at_first_wanted, at_given, at_inequality, at_items, at_known, at_list, at_points, at_tree, at_wanted, begins_with, chooses, end_not_allocated, exact_atom, forced_ends, has_step, joins, leak, lowest, lowest_forced, no_atom, not_different, not_equal, segment_at, split_or, takes, takes_if, which}
+use Rattle.sf_search.specs.Checked.Chooses.{at_choice, at_command, at_end, at_equality, at_first_wanted, at_given, at_inequality, at_items, at_known, at_list, at_points, at_tree, at_wanted, begins_with, chooses, exact_atom, has_step, joins, split_or, takes_if}
+use Rattle.sf_search.specs.Strategy.{end_not_allocated, forced_ends, leak, lowest, lowest_forced, no_atom, not_different, not_equal, segment_at, takes, which}
 use Rattle.sf_search.specs.Checked.Laws.{TakenTagsHaveRows}
+use Rattle.sf_search.proofs.Told.{told}
 use Rattle.sf_search.proofs.GoalShapes.{IsReady, ready-of}
 use Rattle.sf_sym.specs.Below.{AllInPending, AllPaired, IsBelow}
 use Rattle.sf_sym.specs.Cells.{cell_at, fields_at, handed}
@@ -563,5 +565,5 @@ unfolding TakenTagsHaveRows
 taken_tags_have_rows d goal tag shape numbers e =
     let there = some-there (row d goal tag)
     (ap (λ b. is_some (cond b (row_of d goal tag) None)) numbers
-    ∙ subst (Good (row_of d goal)) e (good-chooses d goal (ready-of d goal shape numbers))) in
+    ∙ subst (Good (row_of d goal)) (told goal ∙ e) (good-chooses d goal (ready-of d goal shape numbers))) in
     (there.0, row-leaves d goal tag there.0 there.1)

@@ -7,7 +7,7 @@ use Rattle.sf_base.specs.declared.limits.TheConstants.{PROCEDURE_TAGS, FILE_TAGS
 use Rattle.sf_core.specs.Program.Syntax.{Procedure}
 use Rattle.sf_rules.specs.Rules.{Leaves}
 use Rattle.sf_rules.specs.Setting.{Setting}
-use Rattle.sf_search.specs.Strategy.{Kind, chooses, stays, takes}
+use Rattle.sf_search.specs.Strategy.{Kind, stays, strategy, takes}
 use Rattle.sf_rules.specs.First.{first_goal}
 use Rattle.sf_sym.specs.declared.tag.Tag.{Tag}
 use Rattle.sf_sym.specs.declared.tag.Tag.TheVariants as t
@@ -24,10 +24,10 @@ pub data Outcome : Type 0 where
 -- end
 abbrev pub Chosen : Setting → List Goal → List Tag → Outcome → Type 0
 Chosen d [] [] proved = Unit {0}
-Chosen d (g ∷ gs) [] (stuck h kind) = (h ≡ g) × (chooses g ≡ stays kind)
-Chosen d (g ∷ gs) [] large = (tag : Tag) × (chooses g ≡ takes tag)
+Chosen d (g ∷ gs) [] (stuck h kind) = (h ≡ g) × (strategy g ≡ stays kind)
+Chosen d (g ∷ gs) [] large = (tag : Tag) × (strategy g ≡ takes tag)
 Chosen d (g ∷ gs) (tag ∷ tags) outcome =
-    (chooses g ≡ takes tag) × (left : List Goal) × Leaves d g tag left
+    (strategy g ≡ takes tag) × (left : List Goal) × Leaves d g tag left
     × Chosen d (left ++ gs) tags outcome
 Chosen d _ _ _ = ⊥
 

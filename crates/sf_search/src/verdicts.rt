@@ -13,7 +13,7 @@ ghost use Rattle.sf_search.specs.Checked.Growth.{staying};
 ghost use Rattle.sf_search.specs.Checked.Knowing.{IsKnownAfter};
 ghost use Rattle.sf_search.specs.Checked.Settled.{IsSettled};
 ghost use Rattle.sf_search.specs.Checked.ShapeLaws.{KeepsShape};
-ghost use Rattle.sf_search.specs.Strategy.{chooses};
+ghost use Rattle.sf_search.specs.Checked.Chooses.{chooses};
 ghost use Rattle.sf_search.specs.Ends.{EndsAs, FailsAs, choice_of, failure};
 ghost use Rattle.sf_search.specs.Judge.{Judge, Search, proof, proved};
 ghost use Rattle.sf_sym.specs.Goal.{Goal as AnyGoal, goal_of};
@@ -21,7 +21,7 @@ ghost use Rattle.sf_sym.specs.Tests.{is_absurd};
 ghost use Rattle.sf_sym.specs.declared.tag.Tag.TheVariants.{Procedure};
 
 use crate::choices::{
-    Choice, Kind, Size, choose, choose_in_front, choose_possible, grown_bare, grown_roots,
+    Choice, Kind, Size, choose_in_front, choose_possible, choose_unknown, grown_bare, grown_roots,
     grows_settled, keeps_settled, leaves_possible, staying,
 };
 use crate::laws::{arranged_is_set_up, goals_have_shape};
@@ -169,7 +169,7 @@ fn choose_knowing(alloc: Global, goal: &Goal, known: Known) -> Result<Choice, Al
     } else if known.possible {
         choose_possible(alloc, goal)
     } else {
-        choose(alloc, goal)
+        choose_unknown(alloc, goal)
     }
 }
 

@@ -6,7 +6,8 @@ ghost use Rattle.std.specs.Option.{option_map};
 ghost use Rattle.sf_consume.specs.Subtract.{is_same_shape};
 ghost use Rattle.sf_search.specs.Ends.{choice_of, kind_of};
 ghost use Rattle.sf_search.specs.Checked.Settled.{IsSettled};
-ghost use Rattle.sf_search.specs.Strategy.{lower, lowest, opened, opened_by, or_else, segment_at, split_or, tree_at, undecided_ends, which};
+ghost use Rattle.sf_search.specs.Checked.Chooses.{opened, opened_by, split_or};
+ghost use Rattle.sf_search.specs.Strategy.{lower, lowest, or_else, segment_at, tree_at, undecided_ends, which};
 ghost use Rattle.sf_sym.specs.Cells.{fields_at};
 ghost use Rattle.sf_sym.specs.Tests.{parts};
 

@@ -2,7 +2,7 @@
 
 ghost use Rattle.std.specs.Prelude.{◌≡◌};
 ghost use Rattle.sf_search.specs.Ends.{choice_of};
-ghost use Rattle.sf_search.specs.Strategy.{at_choice, at_test};
+ghost use Rattle.sf_search.specs.Checked.Chooses.{at_choice, at_test};
 
 use crate::choices::atoms::split_or;
 use crate::choices::choice::{Choice, Kind};

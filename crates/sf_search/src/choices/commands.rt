@@ -4,7 +4,8 @@ ghost use Rattle.std.specs.Prelude.{◌≡◌};
 ghost use Rattle.sf_core.specs.Program.View.{command_of};
 ghost use Rattle.sf_search.specs.Ends.{choice_of};
 ghost use Rattle.sf_search.specs.Checked.Settled.{IsSettled};
-ghost use Rattle.sf_search.specs.Strategy.{at_cell, at_command, no_cell, takes};
+ghost use Rattle.sf_search.specs.Checked.Chooses.{at_cell, at_command};
+ghost use Rattle.sf_search.specs.Strategy.{no_cell, takes};
 ghost use Rattle.sf_sym.specs.declared.tag.Tag.TheVariants.{Dispose, Look, Mutate};
 
 use crate::choices::atoms::at_cell;

@@ -2,7 +2,7 @@
 
 ghost use Rattle.std.specs.Prelude.{◌≡◌};
 ghost use Rattle.sf_search.specs.Ends.{choice_of};
-ghost use Rattle.sf_search.specs.Strategy.{at_given};
+ghost use Rattle.sf_search.specs.Checked.Chooses.{at_given};
 ghost use Rattle.sf_sym.specs.Pending.{pending_of};
 
 use crate::choices::branches::at_choice;

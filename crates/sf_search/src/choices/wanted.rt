@@ -6,7 +6,7 @@ ghost use Rattle.sf_consume.specs.Subtract.{wanted_shape};
 ghost use Rattle.sf_core.specs.Program.View.{conjunct_of};
 ghost use Rattle.sf_search.specs.Ends.{choice_of};
 ghost use Rattle.sf_search.specs.Checked.Settled.{IsSettled};
-ghost use Rattle.sf_search.specs.Strategy.{at_equality, at_inequality, at_list, at_points, at_tree, at_want, at_wanted, at_wanted_cell, begins_with, exact_atom, joins};
+ghost use Rattle.sf_search.specs.Checked.Chooses.{at_equality, at_inequality, at_list, at_points, at_tree, at_want, at_wanted, at_wanted_cell, begins_with, exact_atom, joins};
 ghost use Rattle.sf_sym.specs.Pending.{pending_of};
 
 use crate::choices::atoms::{at_cell, lowest_cell, lowest_segment, lowest_shape, split_or};

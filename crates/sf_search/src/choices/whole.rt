@@ -5,7 +5,8 @@ ghost use Rattle.std.specs.Option.{option_map};
 ghost use Rattle.sf_search.specs.Checked.Choosing.{at_first, at_state};
 ghost use Rattle.sf_search.specs.Ends.{choice_of};
 ghost use Rattle.sf_search.specs.Checked.Settled.{IsSettled};
-ghost use Rattle.sf_search.specs.Strategy.{Choice as AnyChoice, at_end, at_items, chooses, or_else};
+ghost use Rattle.sf_search.specs.Checked.Chooses.{at_end, at_items, chooses};
+ghost use Rattle.sf_search.specs.Strategy.{Choice as AnyChoice, or_else, strategy};
 ghost use Rattle.sf_sym.specs.Goal.{Item as Thing, goal_of, items_of, todo_of};
 ghost use Rattle.sf_sym.specs.Checked.Items.{is_nothing};
 ghost use Rattle.sf_sym.specs.Tests.{is_absurd};
@@ -23,6 +24,13 @@ use std::alloc::{AllocError, Global};
 /// then the lowest atom that can only be empty is so; then the item in front decides. An `Err`
 /// means out of memory, which is wanted for a wanted cell alone.
 pub fn choose(alloc: Global, goal: &Goal) -> Result<Choice, AllocError>
+    ensures { IfOk result (λ c. choice_of c ≡ strategy (goal_of goal.now)) }
+{
+    choose_unknown(alloc, goal)
+}
+
+/// The same as the code says it: what is in front decides, after what is known.
+pub(crate) fn choose_unknown(alloc: Global, goal: &Goal) -> Result<Choice, AllocError>
     ensures { IfOk result (λ c. choice_of c ≡ chooses (goal_of goal.now)) }
 {
     if goal.state.is_absurd() {

@@ -5,6 +5,7 @@ use Rattle.sf_rules.specs.Checked.Children.{stack_of}
 use Rattle.sf_search.proofs.Leading.{Leads, leads_on, leads_end, no_goals, stack_push}
 use Rattle.sf_search.proofs.Reached.{IsReached, reached_first, reached_next, reached_row}
 use Rattle.sf_search.proofs.KnownNext.{known_of_first}
+use Rattle.sf_search.proofs.Told.{told}
 use Rattle.sf_search.specs.Ends.{choice_of, kind_of}
 use Rattle.sf_search.specs.Checked.Knowing.{IsKnownOfFirst}
 use Rattle.sf_search.specs.Judge.{large, proved, stuck}
@@ -61,7 +62,8 @@ follow-requires g c =
     c.loop-goal.invariant.reached in
     let chosen = sym c.in_ok-tag.ensures ∙ ap choice_of c.in-Takes.is in
     let left = reached_row g.d (goal_of c.args.first) c.requires.1.1 (length c.loop-goal.tags.items)
-    (goal_of c.in-Some.goal) c.in-Takes.tag c.loop-goal.invariant.count reached.0 chosen in
+    (goal_of c.in-Some.goal) c.in-Takes.tag c.loop-goal.invariant.count reached.0
+    (sym (told (goal_of c.in-Some.goal)) ∙ chosen) in
     (c.requires.0, (c.requires.1.0, ap is_some left.1))
 
 pub choose_knowing-requires-clause-settled : goal.choose_knowing-requires-clause-settled
@@ -86,7 +88,7 @@ returns-in-Stays-clause-err g c =
         chosen = leads_end g.d (goal_of c.args.first ∷ [])
             (goal_of c.in-Some.goal ∷ stack_of c.pop.new.self.items) c.loop-goal.tags.items
             (stuck (goal_of c.in-Some.goal) (kind_of c.in-Stays.kind)) leads
-            (refl, sym c.in_ok-tag.ensures ∙ ap choice_of c.in-Stays.is);
+            (refl, sym (told (goal_of c.in-Some.goal)) ∙ sym c.in_ok-tag.ensures ∙ ap choice_of c.in-Stays.is);
         within = c.loop-goal.invariant.count;
       },
     )
@@ -100,7 +102,7 @@ returns-then-len-eq-PROCEDURE_TAGS-clause-err g c =
       record {
         chosen = leads_end g.d (goal_of c.args.first ∷ [])
             (goal_of c.in-Some.goal ∷ stack_of c.pop.new.self.items) c.loop-goal.tags.items large leads
-            (c.in-Takes.tag, sym c.in_ok-tag.ensures ∙ ap choice_of c.in-Takes.is);
+            (c.in-Takes.tag, sym (told (goal_of c.in-Some.goal)) ∙ sym c.in_ok-tag.ensures ∙ ap choice_of c.in-Takes.is);
         within = search (rules, arith);
       },
     )
