@@ -19,7 +19,7 @@ use Rattle.sf_calls.specs.Checked.Laws.{HeldResourcesAreThere}
 use Rattle.sf_calls.specs.Sets.{AreSetsOf, IsEarlierResource}
 use Rattle.sf_core.specs.Program.Formed.{IsFormed}
 use Rattle.sf_core.specs.Program.Init.{is_init}
-use Rattle.sf_core.specs.Program.Syntax.{Assertion, Procedure, Resource}
+use Rattle.sf_core.specs.Program.Syntax.{Procedure, Resource}
 use Rattle.sf_precise.specs.Annotations.{owed}
 use Rattle.sf_rules.specs.First.{first_goal, first_state_of, links_of, nils, own_vars, symbols, with_held}
 use Rattle.sf_rules.specs.Resources.{variables_of, variables_from}

@@ -32,7 +32,7 @@ use Rattle.sf_rules.specs.Checked.Lemmas.StateChildren.{AllStay, absurd-stays, a
 use Rattle.sf_rules.specs.Checked.Lemmas.Subtracting.{Lists, chosen-lists, subtract-lists}
 use Rattle.sf_rules.specs.Checked.Lemmas.VariableTerms.{all-order, remove_all-order}
 use Rattle.sf_rules.specs.Checked.RowCases.{Rows, RowsHaveCases, by_absurd, by_add, by_again, by_around, by_assign, by_call, by_choice, by_choice_assumed, by_choice_shown, by_dispose, by_drop, by_end, by_enter, by_exit, by_force, by_fork, by_give, by_look, by_loop, by_mutate, by_new, by_return, by_split, by_step, by_unroll, goal_of}
-use Rattle.sf_rules.specs.First.{first_goal, first_state_of, links_of, nils, own_vars, symbols, nil_for, with_held, with_nil}
+use Rattle.sf_rules.specs.First.{first_goal, links_of, nils, own_vars, symbols, nil_for, with_held, with_nil}
 use Rattle.sf_rules.specs.Resources.{variables_of, variables_from}
 use Rattle.sf_rules.specs.Checked.Rows.Branches.{branch_row}
 use Rattle.sf_rules.specs.Callee.{term_after, term_before}

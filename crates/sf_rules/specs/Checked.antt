@@ -12,6 +12,7 @@ pub mod LawsOfConjuncts
 pub mod LawsOfRules
 pub mod LawsOfSettings
 pub mod LawsOfShape
+pub mod LawsOfUpdates
 pub mod Lemmas
 pub mod RowCases
 pub mod Rows

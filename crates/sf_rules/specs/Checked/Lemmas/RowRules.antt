@@ -14,7 +14,7 @@ use Rattle.sf_consume.specs.Wants.{still_wanted}
 use Rattle.sf_core.specs.declared.assertion.Operand.{Operand}
 use Rattle.sf_core.specs.declared.assertion.Operand.TheVariants.{Known, Exists}
 use Rattle.sf_core.specs.declared.assertion.Test.TheVariants.{True, Equal, Differ}
-use Rattle.sf_core.specs.Program.Syntax.{Call, Conjunct, Conjuncts, also, holds, points, segment, tree, choose, assign, look_up, mutate, new, dispose, if, while, call, fork, with, Procedure}
+use Rattle.sf_core.specs.Program.Syntax.{Conjunct, Conjuncts, also, holds, points, segment, tree, choose, assign, look_up, mutate, new, dispose, if, while, call, fork, with}
 use Rattle.sf_normal.specs.Knowledge.{absurd_row, drop_row, force_row, split_row, unroll_row, unroll_one, unrolled_segment, unrolled_tree}
 use Rattle.sf_produce.specs.Add.{Met, met, met_existential, met_fields}
 use Rattle.sf_rules.specs.declared.few.TheConstants.{TOO_MANY}

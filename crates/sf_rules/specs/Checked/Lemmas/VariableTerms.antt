@@ -19,7 +19,7 @@ abbrev pub BeforeAll : Var → List (Var × Term) → Type 0
 BeforeAll x vs = AllByRecursion (λ (v : Var × Term). comes_before x v.0 ≡ true) vs
 
 -- of two different variables one comes before the other
-before-total : (x y : Var) → same_var y x ≡ false → comes_before x y ≡ false → comes_before y x ≡ true
+pub before-total : (x y : Var) → same_var y x ≡ false → comes_before x y ≡ false → comes_before y x ≡ true
 before-total (Own i) (Own j) n b = grind (arith, nat_tests)
 before-total (Own i) (Shared r j) n b = absurd (cc)
 before-total (Shared q i) (Own j) n b = refl
