@@ -2,6 +2,7 @@ pub mod Calls
 pub mod Ended
 pub mod Entries
 pub mod HeapChanges
+pub mod Moves
 pub mod NextTodo
 pub mod Opened
 pub mod Plans

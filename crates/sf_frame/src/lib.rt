@@ -3,6 +3,7 @@
 //!
 //! - `spot`: where the store keeps the values of variables.
 //! - `store`, `rooms`: the values of variables by their slots, and rooms of slots that come up.
+//! - `moving`: slots that move between stores.
 //! - `frame`: frames, and what they have still to do. `stack`: the frames of a task.
 //! - `shared`: the cells, the values of variables, and who holds the resources.
 //! - `look`: where values are looked up. `values`: the values of expressions and tests.
@@ -25,6 +26,7 @@ mod entry;
 mod following;
 mod frame;
 mod look;
+mod moving;
 mod plan;
 mod refusal;
 mod rooms;
