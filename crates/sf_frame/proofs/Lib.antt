@@ -1,3 +1,4 @@
+pub mod Acts
 pub mod Calls
 pub mod Ended
 pub mod Entries
@@ -9,4 +10,5 @@ pub mod Plans
 pub mod RoomSlots
 pub mod Spots
 pub mod Stacks
+pub mod Todos
 pub mod Views
