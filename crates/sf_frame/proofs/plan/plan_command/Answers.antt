@@ -46,8 +46,8 @@ pub returns-in-Calls-clause-plans : goal.returns-in-Calls-clause-plans
 returns-in-Calls-clause-plans c =
     let k = c.in-Calls.ensures (program_of c.args.p.now) c.requires.field any_cell in
     ok_map c.plan_call.result c.plan_call.ensures (λ plan plans cell.
-        subst (λ (one : Command). Plans (program_of c.args.p.now) (event_of c.args.event.now cell)
-        (common_of c.args.shared.now) (fixed_of c.args.frame.now) one plan) (sym k.1) (plans cell k.0))
+    subst (λ (one : Command). Plans (program_of c.args.p.now) (event_of c.args.event.now cell)
+    (common_of c.args.shared.now) (fixed_of c.args.frame.now) one plan) (sym k.1) (plans cell k.0))
 
 pub returns-in-Calls-clause-memory : goal.returns-in-Calls-clause-memory
 returns-in-Calls-clause-memory c =
@@ -68,8 +68,8 @@ pub returns-in-Forks-clause-plans : goal.returns-in-Forks-clause-plans
 returns-in-Forks-clause-plans c =
     let k = c.in-Forks.ensures (program_of c.args.p.now) c.requires.field any_cell in
     ok_map c.plan_fork.result c.plan_fork.ensures (λ plan plans cell.
-        subst (λ (one : Command). Plans (program_of c.args.p.now) (event_of c.args.event.now cell)
-        (common_of c.args.shared.now) (fixed_of c.args.frame.now) one plan) (sym k.1) (plans cell k.0))
+    subst (λ (one : Command). Plans (program_of c.args.p.now) (event_of c.args.event.now cell)
+    (common_of c.args.shared.now) (fixed_of c.args.frame.now) one plan) (sym k.1) (plans cell k.0))
 
 pub returns-in-Forks-clause-memory : goal.returns-in-Forks-clause-memory
 returns-in-Forks-clause-memory c =
