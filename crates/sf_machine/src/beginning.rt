@@ -1,6 +1,7 @@
 //! Where a run begins.
 
 ghost use Rattle.std.specs.Prelude.{◌≡◌, ◌+◌, ◌<◌, ◌≤◌, ◌*◌, ◌∷◌, [], cond, length, ltb, Some, None, is_some, IfOk, IfSome, slice_get, List, ℕ};
+ghost use Rattle.sf_base.specs.declared.ids.ProcId.{ProcId as F};
 ghost use Rattle.sf_base.specs.declared.ids.ResId.{ResId as R};
 ghost use Rattle.sf_base.specs.declared.limits.TheConstants.{OWN_VARIABLES};
 ghost use Rattle.sf_base.specs.HeapStore.{Slot};
@@ -44,6 +45,7 @@ fn own_count(p: &Program, f: ProcId) -> u32
     ensures count { (g : Procedure) → procedure_at (program_of p.now) f ≡ Some g
         → result ≡ length g.names }
     ensures few { result ≤ 2 * OWN_VARIABLES }
+    ensures there { (g : Procedure) × (procedure_at (program_of p.now) f ≡ Some g) }
 {
     p.proc(f).names.len() as u32
 }
@@ -55,6 +57,8 @@ fn first_count(p: &Program, f: ProcId, init: Option<ProcId>) -> u32
     ensures count { (g : Procedure) → procedure_at (program_of p.now) f ≡ Some g
         → result ≡ first_count (beginning_at (program_of p.now) init) g }
     ensures few { result ≤ 4 * OWN_VARIABLES }
+    ensures found { (n : F) → init ≡ Some n
+        → (h : Procedure) × (procedure_at (program_of p.now) n ≡ Some h) }
 {
     let own = own_count(p, f);
     match init {

@@ -1,14 +1,10 @@
-use Rattle.std.proofs.Common.{◌≡◌, ◌∙◌, ◌<◌, Option, ap, length, refl, subst}
-use Rattle.std.specs.Option.{IfSome}
-use Rattle.sf_base.specs.declared.ids.ProcId.{ProcId}
+use Rattle.std.proofs.Common.{◌≡◌, ◌∙◌, ap, refl}
 use Rattle.sf_core.specs.Machine.Config.{runs}
 use Rattle.sf_core.specs.Machine.Start.{Beginning, first_count, first_frames}
 use Rattle.sf_core.specs.Program.ProgramView.{program_of}
-use Rattle.sf_core.specs.Program.View.{procedure_of}
 use Rattle.sf_heap.specs.Cells.{heap_of}
 use Rattle.sf_machine.specs.Checked.Firsts.{beginning_at}
 use Rattle.sf_frame.specs.Commons.{held_of}
-use Rattle.sf_frame.proofs.Plans.{procedure_there}
 use Rattle.sf_machine.proofs.Reaching.{reached_begin}
 use Rattle.sf_machine.proofs.Tables.{begins_as, beginning_kept, holders_same, store_all, used_first}
 use Rattle.sf_machine.proofs.beginning.begin_on.Goals as goal
@@ -42,9 +38,7 @@ returns-clause-begins c =
           c.first_count.result rs (c.first_count.ensures.count s.procedure s.there
           ∙ ap (λ (b : Beginning). first_count b s.procedure) same) refl slot)
           (holders_same p rs init s.beginning c.held_count.result (held_of c.in_ok-held.held) refl same
-          (λ n e. procedure_there procedure_of c.args.p.now.procedures.items n.0
-          (subst (λ (o : Option ProcId). IfSome o (λ m. m.0 < length c.args.p.now.procedures.items)) e
-          c.first_init-init.ensures.within)) c.held_count.ensures c.in_ok-held.ensures)
+          c.first_count.ensures.found c.held_count.ensures c.in_ok-held.ensures)
           (used_first c.new-used.result c.insert.new.self c.new-used.ensures.empty c.in_ok-insert.ensures.updates.0)
           (c.in_ok-tasks.ensures s.procedure s.there
           ∙ ap (λ (b : Beginning). runs (first_frames b c.args.f s.procedure)) same);
