@@ -1,6 +1,6 @@
 -- Footprints one after the other: what the set of their locations has, and what the next one is.
 -- Names: `marks_LAW` of the set, `distinct_LAW` of lists without repeats, `next_CASE` of the next one.
-use Rattle.std.proofs.Common.{◌≡◌, ◌≢◌, ◌⊎◌, ◌<◌, ◌+◌, ◌||◌, ℕ, suc, Bool, true, false, cond, nat_eq, nat_cmp, List, [], ◌∷◌, ◌++◌, All, Contains, Some, length, drop, drop-cons, get_or, refl, sym, ap, ◌∙◌, subst, inl, inr, arith, append-nil}
+use Rattle.std.proofs.Common.{◌≡◌, ◌≢◌, ◌⊎◌, ◌<◌, ◌+◌, ◌||◌, ℕ, suc, Bool, true, false, cond, nat_eq, nat_cmp, List, [], ◌∷◌, ◌++◌, All, Contains, length, drop, drop-cons, get_or, refl, sym, ap, ◌∙◌, subst, inl, inr, arith, append-nil}
 use Rattle.std.specs.BTreeMap.{is_at}
 use Rattle.std.specs.BTreeSet.{BTreeSet, contains}
 use Rattle.std.specs.List.{AllByRecursion, IsDistinct, concat}
@@ -25,7 +25,7 @@ use Rattle.sf_core.specs.declared.command.Expr.{Expr}
 use Rattle.sf_core.specs.Checked.Assertions.Precise.{IsPrecise}
 use Rattle.sf_core.specs.Assertions.Sat.{Sat, value}
 use Rattle.sf_core.specs.Program.Syntax.{Level}
-use Rattle.sf_heap.specs.Cells.{Cells, HasCell, heap_of}
+use Rattle.sf_heap.specs.Cells.{Cells, HasCell}
 use Rattle.sf_foot.specs.declared.found.Found.{Found}
 use Rattle.sf_foot.specs.Footprint.{HasNoFootprint, IsFootprint}
 use Rattle.sf_foot.specs.Found.{AreApart, HasNoneBeside}
@@ -148,3 +148,13 @@ next_apart heap old next ls at found has same rises out parts marks = record {
         go true e = absurd (false≢true (sym (All-contains (λ q. contains nat_cmp old.taken q ≡ false) at l out
             (subst (λ xs. Contains xs l) (sym same) ((member_decides ls l).0 e)))
             ∙ found.marks l ∙ (member_decides (concat old.parts.items) l).1 c))
+
+-- nothing is found yet
+pub next_nothing : (found : Found) → found.parts.items ≡ []
+    → ((l : ℕ) → contains nat_cmp found.taken l ≡ false) → (heap : Cells) → AreApart heap found
+unfolding IsDistinct
+next_nothing found e marks heap = record {
+  distinct = subst (λ ps. IsDistinct nat_eq (concat ps)) (sym e) tt;
+  there = λ l h. absurd (false≢true (sym (ap (λ ps. is_member nat_eq (concat ps) l) e) ∙ h));
+  marks = λ l. marks l ∙ sym (ap (λ ps. is_member nat_eq (concat ps) l) e);
+}

@@ -7,6 +7,7 @@ ghost use Rattle.std.specs.BTreeSet.{contains};
 ghost use Rattle.std.specs.Ordering.{nat_cmp};
 ghost use Rattle.std.specs.Set.{is_member};
 ghost use Rattle.sf_core.specs.Program.View.{assertion_of};
+ghost use Rattle.sf_heap.specs.Cells.{Cells};
 ghost use Rattle.sf_foot.specs.Found.{AreApart, FindsNext};
 ghost use Rattle.sf_foot.specs.Variables.{value_of};
 
@@ -30,7 +31,7 @@ impl Found {
     /// Nothing is found yet.
     pub fn new(alloc: Global) -> Found
         ensures parts { result.parts.items ≡ [] }
-        ensures taken { (l : ℕ) → contains nat_cmp result.taken l ≡ false }
+        ensures apart { (heap : Cells) → AreApart heap result }
     {
         Found {
             parts: Vec::new(alloc),

@@ -158,16 +158,11 @@ there-at (x ∷ xs) zero h = (x, refl)
 there-at (x ∷ xs) (suc k) h = there-at xs k (omega (arith, h))
 
 -- nothing is found yet
-pub found-nothing : (vars : Var → Value) (heap : Cells) (found : Found) → found.parts.items ≡ []
-    → ((l : ℕ) → contains nat_cmp found.taken l ≡ false) → AreFound [] vars heap found
-unfolding IsDistinct
-found-nothing vars heap found e marks = record {
+pub found-nothing : (vars : Var → Value) (heap : Cells) (found : Found) → found.parts.items ≡ [] → AreApart heap found
+    → AreFound [] vars heap found
+found-nothing vars heap found e apart = record {
   footprints = subst (λ ps. AllZip (λ (a : Assertion) ls. IsFootprint a.level vars (heap_of heap) ls) [] ps) (sym e) tt;
-  apart = record {
-    distinct = subst (λ ps. IsDistinct nat_eq (concat ps)) (sym e) tt;
-    there = λ l h. absurd (false≢true (sym (ap (λ ps. is_member nat_eq (concat ps) l) e) ∙ h));
-    marks = λ l. marks l ∙ sym (ap (λ ps. is_member nat_eq (concat ps) l) e);
-  };
+  apart = apart;
 }
 
 -- the invariant of the resource of a number is the assertion after that number

@@ -15,7 +15,8 @@ returns-then-not-branch c =
     let p = program_of c.args.p.now.program in
     let vars = value_of c.args.vars.now in
     let heap = c.args.heap.now in
-    let nothing = found-nothing vars heap c.new-found.result c.new-found.ensures.parts c.new-found.ensures.taken in
+    let nothing = found-nothing vars heap c.new-found.result c.new-found.ensures.parts
+    (c.new-found.ensures.apart heap) in
     some-then (λ (g : Procedure). IsOrderOf g.pre (assertion_of c.pre.result.now.assertion)) _
     (slice_get p.procedures c.args.f.0) c.pre.ensures
     (λ g e ord.
@@ -29,7 +30,8 @@ returns c =
     let p = program_of c.args.p.now.program in
     let vars = value_of c.args.vars.now in
     let heap = c.args.heap.now in
-    let nothing = found-nothing vars heap c.new-found.result c.new-found.ensures.parts c.new-found.ensures.taken in
+    let nothing = found-nothing vars heap c.new-found.result c.new-found.ensures.parts
+    (c.new-found.ensures.apart heap) in
     some-then (λ (g : Procedure). IsOrderOf g.pre (assertion_of c.pre.result.now.assertion)) _
     (slice_get p.procedures c.args.f.0) c.pre.ensures
     (λ g e ord. subst (λ found. AlsoFound [] g.pre vars heap c.new-found.result c.take_next.new.found (Ok found))
