@@ -1,5 +1,6 @@
 -- Footprints one after the other: what the set of their locations has, and what the next one is.
--- Names: `marks_LAW` of the set, `distinct_LAW` of lists without repeats, `next_CASE` of the next one.
+-- Names: `marks_LAW` of the set, `distinct_LAW` of lists without repeats, `next_CASE` of the next
+-- one.
 use Rattle.std.proofs.Common.{◌≡◌, ◌≢◌, ◌⊎◌, ◌<◌, ◌+◌, ◌||◌, ℕ, suc, Bool, true, false, cond, nat_eq, nat_cmp, List, [], ◌∷◌, ◌++◌, All, Contains, length, drop, drop-cons, get_or, refl, sym, ap, ◌∙◌, subst, inl, inr, arith, append-nil}
 use Rattle.std.specs.BTreeMap.{is_at}
 use Rattle.std.specs.BTreeSet.{BTreeSet, contains}
@@ -35,14 +36,16 @@ member_decides : (ls : List ℕ) (l : ℕ) → Decides (is_member nat_eq ls l) (
 member_decides ls l = is_member-Decides Decides-eqb ls l
 
 -- what is read at a place doesn't depend on what is read past the end
-pub read_at : {X : Type 0} (xs : List X) (i : ℕ) (d : X) → i < length xs → get_or xs i d ≡ get_or xs i (get_or xs i d)
+pub read_at : {X : Type 0} (xs : List X) (i : ℕ) (d : X) → i < length xs
+    → get_or xs i d ≡ get_or xs i (get_or xs i d)
 read_at xs i d h =
     sym (get_or_from_slice_get xs i (get_or xs i d) (get_or xs i d) (slice_get-get_or xs i d h))
 
 -- one more that is added is one fewer that is left
 pub marks_more : (taken new : BTreeSet ℕ) (x : ℕ) (rest : List ℕ) (q : ℕ)
     → contains nat_cmp new q ≡ cond (is_at (nat_cmp x) q) true (contains nat_cmp taken q)
-    → (contains nat_cmp new q || is_member nat_eq rest q) ≡ (contains nat_cmp taken q || is_member nat_eq (x ∷ rest) q)
+    → (contains nat_cmp new q || is_member nat_eq rest q) ≡
+    (contains nat_cmp taken q || is_member nat_eq (x ∷ rest) q)
 marks_more taken new x rest q e = ap (λ b. b || is_member nat_eq rest q) e ∙ step (cases_eq q x)
   where
     same : (k y : ℕ) → k ≡ y → nat_eq k y ≡ true
@@ -55,7 +58,8 @@ marks_more taken new x rest q e = ap (λ b. b || is_member nat_eq rest q) e ∙ 
     first true b = refl
     first false b = refl
 
-    step : (q ≡ x) ⊎ (q ≢ x) → (cond (is_at (nat_cmp x) q) true (contains nat_cmp taken q) || is_member nat_eq rest q)
+    step : (q ≡ x) ⊎ (q ≢ x) → (cond (is_at (nat_cmp x) q) true
+        (contains nat_cmp taken q) || is_member nat_eq rest q)
         ≡ (contains nat_cmp taken q || (nat_eq q x || is_member nat_eq rest q))
     step (inl f) = ap (λ b. cond b true (contains nat_cmp taken q) || is_member nat_eq rest q)
         (ap (λ k. is_at (nat_cmp x) k) f ∙ at-self x)
@@ -78,7 +82,8 @@ pub distinct_append : (xs ys : List ℕ) → IsDistinct nat_eq xs → IsDistinct
 unfolding IsDistinct
 distinct_append [] ys d e out = e
 distinct_append (x ∷ xs) ys d e out = (
-  all_by-append (λ y. nat_eq x y ≡ false) xs ys d.0 (none ys (out x ((contains-cons x xs x).1 (inl refl)))),
+  all_by-append (λ y. nat_eq x y ≡ false) xs ys d.0
+      (none ys (out x ((contains-cons x xs x).1 (inl refl)))),
   distinct_append xs ys d.1 e (λ l c. out l ((contains-cons x xs l).1 (inr c))),
 )
   where
@@ -90,9 +95,14 @@ distinct_append (x ∷ xs) ys d e out = (
     rest true c h = absurd (false≢true (sym h))
     rest false c h = h
 
-    none : (zs : List ℕ) → is_member nat_eq zs x ≡ false → AllByRecursion (λ y. nat_eq x y ≡ false) zs
+    none : (zs : List ℕ) → is_member nat_eq zs x ≡ false
+        → AllByRecursion (λ y. nat_eq x y ≡ false) zs
     none [] h = tt
-    none (z ∷ zs) h = (first (nat_eq x z) (is_member nat_eq zs x) h, none zs (rest (nat_eq x z) (is_member nat_eq zs x) h))
+    none (z ∷ zs) h = (
+      first (nat_eq x z) (is_member nat_eq zs x) h,
+      none zs
+          (rest (nat_eq x z) (is_member nat_eq zs x) h),
+    )
 
 distinct_rising : (xs : List ℕ) → IsStrictlyIncreasing xs → IsDistinct nat_eq xs
 distinct_rising xs r = subst (λ (e : ℕ → ℕ → Bool). IsDistinct e xs) same
@@ -102,7 +112,8 @@ distinct_rising xs r = subst (λ (e : ℕ → ℕ → Bool). IsDistinct e xs) sa
     same = λ i x y. at-is x y i
 
 -- there is none in the whole heap
-pub next_none : (a : Level Expr) (vars : Var → Value) (heap : Heap) (taken : List ℕ) → HasNoFootprint a vars heap
+pub next_none : (a : Level Expr) (vars : Var → Value) (heap : Heap) (taken : List ℕ)
+    → HasNoFootprint a vars heap
     → HasNoneBeside taken a vars heap
 next_none a vars heap taken none part f out = none part f
 
@@ -116,20 +127,24 @@ next_overlap a vars heap taken ls l precise f here e part g out =
     (f.at l).1 here (ap (λ (h : Heap). h l) same ∙ out l e)
 
 -- it has none, and is found too
-pub next_apart : (heap : Cells) (old next : Found) (ls at : List ℕ) → AreApart heap old → All (HasCell heap) ls
+pub next_apart : (heap : Cells) (old next : Found) (ls at : List ℕ) → AreApart heap old
+    → All (HasCell heap) ls
     → at ≡ ls → IsStrictlyIncreasing ls → All (λ l. contains nat_cmp old.taken l ≡ false) at
     → next.parts.items ≡ old.parts.items ++ ls ∷ []
-    → ((q : ℕ) → contains nat_cmp next.taken q ≡ (contains nat_cmp old.taken q || is_member nat_eq at q))
+    → ((q : ℕ) → contains nat_cmp next.taken q ≡
+    (contains nat_cmp old.taken q || is_member nat_eq at q))
     → AreApart heap next
 next_apart heap old next ls at found has same rises out parts marks = record {
   distinct = subst (IsDistinct nat_eq) (sym whole)
       (distinct_append (concat old.parts.items) ls found.distinct (distinct_rising ls rises) apart);
-  there = λ l e. elim (or_cases (is_member nat_eq (concat old.parts.items) l) (is_member nat_eq ls l) (sym (members l) ∙ e)) [
-    | inl h ↦ found.there l h
-    | inr h ↦ All-contains (HasCell heap) ls l has ((member_decides ls l).0 h)
-  ];
+  there = λ l e. elim (or_cases (is_member nat_eq (concat old.parts.items) l)
+      (is_member nat_eq ls l) (sym (members l) ∙ e)) [
+        | inl h ↦ found.there l h
+        | inr h ↦ All-contains (HasCell heap) ls l has ((member_decides ls l).0 h)
+      ];
   marks = λ l. marks l ∙ ap (λ b. b || is_member nat_eq at l) (found.marks l)
-      ∙ ap (λ xs. is_member nat_eq (concat old.parts.items) l || is_member nat_eq xs l) same ∙ sym (members l);
+      ∙ ap (λ xs. is_member nat_eq (concat old.parts.items) l || is_member nat_eq xs l) same
+      ∙ sym (members l);
 }
   where
     whole : concat next.parts.items ≡ concat old.parts.items ++ ls
@@ -138,14 +153,16 @@ next_apart heap old next ls at found has same rises out parts marks = record {
 
     members : (l : ℕ) → is_member nat_eq (concat next.parts.items) l
         ≡ (is_member nat_eq (concat old.parts.items) l || is_member nat_eq ls l)
-    members l = ap (λ xs. is_member nat_eq xs l) whole ∙ list_any-append (nat_eq l) (concat old.parts.items) ls
+    members l = ap (λ xs. is_member nat_eq xs l) whole
+        ∙ list_any-append (nat_eq l) (concat old.parts.items) ls
 
     apart : (l : ℕ) → Contains (concat old.parts.items) l → is_member nat_eq ls l ≡ false
     apart l c = go (is_member nat_eq ls l) refl
       where
         go : (b : Bool) → is_member nat_eq ls l ≡ b → is_member nat_eq ls l ≡ false
         go false e = e
-        go true e = absurd (false≢true (sym (All-contains (λ q. contains nat_cmp old.taken q ≡ false) at l out
+        go true e = absurd (false≢true (sym (All-contains
+            (λ q. contains nat_cmp old.taken q ≡ false) at l out
             (subst (λ xs. Contains xs l) (sym same) ((member_decides ls l).0 e)))
             ∙ found.marks l ∙ (member_decides (concat old.parts.items) l).1 c))
 

@@ -1,5 +1,6 @@
 -- Footprints that were found one after the other, and what comes of the next one.
--- Ordinary: footprints in a whole heap that are disjoint, for footprints each in what the earlier ones leave.
+-- Ordinary: footprints in a whole heap that are disjoint, for footprints each in what the earlier
+-- ones leave.
 use Rattle.std.specs.Prelude.{◌≡◌, ℕ, ◌++◌, Bool, true, false, nat_eq, List, [], ◌∷◌, None, Ok, Err, Result}
 use Rattle.std.specs.BTreeSet.{contains}
 use Rattle.std.specs.FinMap.{contains_key}
@@ -21,12 +22,15 @@ use Rattle.sf_foot.specs.Footprint.{IsFootprint}
 -- the parts are disjoint, each of their locations has a cell, and the set has just these
 pub record AreApart (heap : Cells) (found : Found) : Type 0 where
   pub distinct : IsDistinct nat_eq (concat found.parts.items)
-  pub there : (l : ℕ) → is_member nat_eq (concat found.parts.items) l ≡ true → contains_key heap l ≡ true
-  pub marks : (l : ℕ) → contains nat_cmp found.taken l ≡ is_member nat_eq (concat found.parts.items) l
+  pub there : (l : ℕ) → is_member nat_eq (concat found.parts.items) l ≡ true
+      → contains_key heap l ≡ true
+  pub marks : (l : ℕ) → contains nat_cmp found.taken l ≡ is_member nat_eq
+      (concat found.parts.items) l
 
 -- of each heap at most one part satisfies the assertion: it is precise
 abbrev pub HasOnePart : Level Expr → (Var → Value) → Type 0
-HasOnePart a vars = (heap one two other another : Heap) → Splits heap one other → Splits heap two another
+HasOnePart a vars = (heap one two other another : Heap) → Splits heap one other
+    → Splits heap two another
     → Sat a (value vars) (λ n. nil) one → Sat a (value vars) (λ n. nil) two → one ≡ two
 
 -- no part of the heap that has none of these cells satisfies the assertion
@@ -36,10 +40,12 @@ HasNoneBeside taken a vars heap = (part : Heap) → Foot a (value vars) heap par
 
 -- the next assertion has a footprint beside the earlier ones, which was found; or nothing is
 -- changed, and it has none, if it is precise; or memory ran out
-abbrev pub FindsNext : Level Expr → (Var → Value) → Cells → (old new : Found) → Result Bool AllocError
+abbrev pub FindsNext : Level Expr → (Var → Value) → Cells → (old new : Found)
+    → Result Bool AllocError
     → Type 0
 FindsNext a vars heap old new (Ok true) = AreApart heap new × (locations : List ℕ)
-    × (new.parts.items ≡ old.parts.items ++ locations ∷ []) × IsFootprint a vars (heap_of heap) locations
+    × (new.parts.items ≡ old.parts.items ++ locations ∷ [])
+    × IsFootprint a vars (heap_of heap) locations
 FindsNext a vars heap old new (Ok false) = (new ≡ old)
     × (HasOnePart a vars → HasNoneBeside (concat old.parts.items) a vars (heap_of heap))
 FindsNext a vars heap old new (Err e) = Unit {0}

@@ -26,7 +26,8 @@ pub fits_front : (cap : ℕ) (xs : List Todo) (x : Todo) → Fits cap (xs ++ x �
 fits_front cap xs x h i y e = h i y (get-push_before xs x i (slice_get_within xs i y e) ∙ e)
 
 -- and so does it
-pub fits_last : (cap : ℕ) (xs : List Todo) (x : Todo) → Fits cap (xs ++ x ∷ []) → length xs + weight x ≤ cap
+pub fits_last : (cap : ℕ) (xs : List Todo) (x : Todo) → Fits cap (xs ++ x ∷ [])
+    → length xs + weight x ≤ cap
 fits_last cap xs x h = h (length xs) x (get-push_last xs x)
 
 -- one that fits above the others
@@ -46,17 +47,23 @@ pub fits_none : (cap : ℕ) → Fits cap []
 fits_none cap i y e = absurd (cc)
 
 -- one that was put on top fits, and so do the others
-pub fits_put : (cap more : ℕ) (old next : List Todo) (x : Todo) → next ≡ old ++ x ∷ [] → more ≡ cap → Fits cap old
+pub fits_put : (cap more : ℕ) (old next : List Todo) (x : Todo) → next ≡ old ++ x ∷ [] → more ≡ cap
+    → Fits cap old
     → length old + weight x ≤ cap → Fits more next
 fits_put cap more old next x e s h l =
     subst (λ k. Fits k next) (sym s) (subst (Fits cap) (sym e) (fits_snoc cap old x h l))
 
 -- what is left where one was taken from the top, which is that one
-pub fits_taken : (cap less : ℕ) (old next : List Todo) (x y : Todo) → old ≡ next ++ x ∷ [] → x ≡ y → less ≡ cap
+pub fits_taken : (cap less : ℕ) (old next : List Todo) (x y : Todo) → old ≡ next ++ x ∷ [] → x ≡ y
+    → less ≡ cap
     → Fits cap old → Fits less next × (length next + weight y ≤ less)
 fits_taken cap less old next x y e is s h =
-    let all : Fits less (next ++ x ∷ []) = subst (λ k. Fits k (next ++ x ∷ [])) (sym s) (subst (Fits cap) e h) in
-    (fits_front less next x all, subst (λ z. length next + weight z ≤ less) is (fits_last less next x all))
+    let all : Fits less (next ++ x ∷ []) = subst (λ k. Fits k (next ++ x ∷ [])) (sym s)
+    (subst (Fits cap) e h) in (
+      fits_front less next x all,
+      subst (λ z. length next + weight z ≤ less) is
+          (fits_last less next x all),
+    )
 
 -- a command is nested at least once
 pub command_deep : (c : Command) → 1 ≤ command_depth c
@@ -87,28 +94,33 @@ todo_put old next x block e is =
     ap todo_of e ∙ todo_snoc old x ∙ ap (λ (z : List Item). z ++ todo_of old) is
 
 -- how a frame goes on whose top entry is taken
-pub goes_leave : (way : Way) (old next : List Todo) (r : ResId) (x : Todo) → old ≡ next ++ x ∷ [] → x ≡ Leave r
+pub goes_leave : (way : Way) (old next : List Todo) (r : ResId) (x : Todo) → old ≡ next ++ x ∷ []
+    → x ≡ Leave r
     → goes_on way (todo_of old) ≡ todo_of next
 goes_leave way old next r x e is =
     ap (λ z. goes_on way (todo_of z)) e ∙ ap (goes_on way) (todo_snoc next x)
     ∙ ap (λ z. goes_on way (items_of z ++ todo_of next)) is
 
-pub goes_first : (way is : Way) (old next : List Todo) (x : Todo) (c : Bor CodeCommand) (rest : Bor (List CodeCommand))
+pub goes_first : (way is : Way) (old next : List Todo) (x : Todo) (c : Bor CodeCommand)
+    (rest : Bor (List CodeCommand))
     → way ≡ is → old ≡ next ++ x ∷ [] → x ≡ Commands c rest
-    → goes_on way (todo_of old) ≡ goes_on is (command (command_of c.now) ∷ (block_items rest.now ++ todo_of next))
+    → goes_on way (todo_of old) ≡ goes_on is (command (command_of c.now) ∷
+    (block_items rest.now ++ todo_of next))
 goes_first way is old next x c rest w e h =
     ap (λ z. goes_on way (todo_of z)) e ∙ ap (goes_on way) (todo_snoc next x)
     ∙ ap (λ z. goes_on way (items_of z ++ todo_of next)) h
     ∙ ap (λ z. goes_on z (command (command_of c.now) ∷ (block_items rest.now ++ todo_of next))) w
 
 -- a block that comes before the rest
-pub items_before : (all mid rest : List Item) (cs block : List CodeCommand) → all ≡ block_items cs ++ mid
+pub items_before : (all mid rest : List Item) (cs block : List CodeCommand)
+    → all ≡ block_items cs ++ mid
     → cs ≡ block → mid ≡ rest → all ≡ items (block_of block) ++ rest
 items_before all mid rest cs block e s h =
     e ∙ (λ i. block_items (s i) ++ h i) ∙ ap (λ (z : List Item). z ++ rest) (items_block block)
 
 -- the command that comes again, and the region that is to be left
-pub items_again : (old next : List Todo) (c : Bor CodeCommand) (rest : Bor (List CodeCommand)) (is : Command)
+pub items_again : (old next : List Todo) (c : Bor CodeCommand) (rest : Bor (List CodeCommand))
+    (is : Command)
     → next ≡ old ++ Commands c rest ∷ [] → command_of c.now ≡ is
     → todo_of next ≡ command is ∷ (block_items rest.now ++ todo_of old)
 items_again old next c rest is e h =
@@ -117,4 +129,5 @@ items_again old next c rest is e h =
 
 pub items_leave : (old next : List Todo) (r : ResId) (rest : List Item) → next ≡ old ++ Leave r ∷ []
     → todo_of old ≡ rest → todo_of next ≡ leave r ∷ rest
-items_leave old next r rest e h = ap todo_of e ∙ todo_snoc old (Leave r) ∙ ap (λ (z : List Item). leave r ∷ z) h
+items_leave old next r rest e h = ap todo_of e ∙ todo_snoc old (Leave r)
+    ∙ ap (λ (z : List Item). leave r ∷ z) h

@@ -25,10 +25,13 @@ pub record IsReached (p : Program) (c : Config) : Type 0 where
 
 -- the configuration of a start is reached, by no event
 unfoldable pub StartsAreReached : Type 0
-StartsAreReached = (p : Program) (f : ProcId) (is_fresh : Bool) (vars : Vars) (heap : Cells) (parts : List (List ℕ))
-    (c : Config) (starts : StartsWith p f is_fresh vars heap parts) (begins : Begins p f is_fresh vars heap c)
+StartsAreReached = (p : Program) (f : ProcId) (is_fresh : Bool) (vars : Vars) (heap : Cells)
+    (parts : List (List ℕ))
+    (c : Config) (starts : StartsWith p f is_fresh vars heap parts)
+    (begins : Begins p f is_fresh vars heap c)
     → begins.beginning ≡ starts.beginning → IsReached p c
 
 -- so is what a step leads to from one that is
 unfoldable pub StepsAreReached : Type 0
-StepsAreReached = (p : Program) (ev : Event) (c d : Config) → IsReached p c → Step p ev c d → IsReached p d
+StepsAreReached = (p : Program) (ev : Event) (c d : Config) → IsReached p c → Step p ev c d
+    → IsReached p d

@@ -23,18 +23,21 @@ use Rattle.sf_frame.specs.declared.plan.Plan.TheVariants.{Acts as acts, Refused 
 use Rattle.sf_frame.specs.declared.stack.Change.TheVariants.{GoOn as go_on}
 use Rattle.sf_frame.specs.Checked.Plans.{Plans}
 
--- the act is what a command's event does, whatever else the task has to do, or says why there is none
+-- the act is what a command's event does, whatever else the task has to do, or says why there is
+-- none
 abbrev pub ActsOf : Program → Event → Common → Fixed → Command → Act → Type 0
 ActsOf p ev s f one (Edits edit way) = Plans p ev s f one (acts (edits edit) (go_on way))
 ActsOf p ev s f one (Makes spot) = Plans p ev s f one (acts (Make spot) (go_on Past))
 ActsOf p ev s f one (Enters r) = Plans p ev s f one (acts (Hold r) (go_on Into))
 ActsOf p ev s f one (Calls c) = (place : Place) × (one ≡ call place (call_of c.now))
-ActsOf p ev s f one (Forks c d) = (place : Place) × (one ≡ fork place (call_of c.now) (call_of d.now))
+ActsOf p ev s f one (Forks c d) = (place : Place)
+    × (one ≡ fork place (call_of c.now) (call_of d.now))
 ActsOf p ev s f one (Refused why) = Plans p ev s f one (refused why)
 
 -- of a command that speaks of no procedure, by an event that makes no cell
 abbrev pub ActsOfEach : Common → Fixed → (Place → Command) → Act → Type 0
-ActsOfEach s f one act = (p : Program) (ev : Event) (place : Place) → ActsOf p ev s f (one place) act
+ActsOfEach s f one act = (p : Program) (ev : Event) (place : Place)
+    → ActsOf p ev s f (one place) act
 
 -- of `x = E`
 abbrev pub ActsAssign : Common → Fixed → Occurrence → Expr → Act → Type 0
@@ -46,7 +49,8 @@ ActsLookUp s f x e field = ActsOfEach s f (λ place. look_up place x e field)
 
 -- of `E->f = F`, in a program that has the field
 abbrev pub ActsMutate : Common → Fixed → Expr → FieldId → Expr → Act → Type 0
-ActsMutate s f e field v act = (p : Program) (ev : Event) (place : Place) → field.0 < length p.fields
+ActsMutate s f e field v act = (p : Program) (ev : Event) (place : Place)
+    → field.0 < length p.fields
     → ActsOf p ev s f (mutate place e field v) act
 
 -- of `x = new()`
@@ -63,7 +67,8 @@ ActsIf s f test this that = ActsOfEach s f (λ place. if place test this that)
 
 -- of `while (B) C`, whatever its invariant is
 abbrev pub ActsWhile : Common → Fixed → Test Expr → Block → Act → Type 0
-ActsWhile s f test body act = (kept : Assertion) → ActsOfEach s f (λ place. while place test kept body) act
+ActsWhile s f test body act = (kept : Assertion)
+    → ActsOfEach s f (λ place. while place test kept body) act
 
 -- of `with r when (B) C`
 abbrev pub ActsWith : Common → Fixed → ResId → Test Expr → Block → Act → Type 0

@@ -79,7 +79,8 @@ EffectWithin p _ = Unit {0}
 
 -- a cell in which it sets a field has that field
 abbrev pub EditHasField : Edit → Cells → Type 0
-EditHasField (Put at f v) cells = (values : FieldValues) → get cells at ≡ Some values → f.0 < length values
+EditHasField (Put at f v) cells = (values : FieldValues) → get cells at ≡ Some values
+    → f.0 < length values
 EditHasField _ cells = Unit {0}
 
 abbrev pub HasField : Effect → Cells → Type 0

@@ -9,7 +9,8 @@ use Rattle.sf_core.specs.Program.View.{block_of}
 use Rattle.sf_frame.specs.declared.todo.Todo.{Todo}
 use Rattle.sf_frame.specs.declared.todo.Todo.TheVariants.{Commands, Leave}
 
--- how many entries can come of one, itself among them: two for each level of nesting, since a region
+-- how many entries can come of one, itself among them: two for each level of nesting, since a
+-- region
 -- has the entry that leaves it below its body
 abbrev pub weight : Todo → ℕ
 weight (Commands c rest) = 2 * block_depth (block_of (c.now ∷ rest.now))

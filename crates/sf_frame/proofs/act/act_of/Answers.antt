@@ -11,13 +11,16 @@ returns-in-Assign c =
 
 pub returns-in-LookUp : goal.returns-in-LookUp
 returns-in-LookUp c =
-    rw (ap command_of c.in-LookUp.is ∙ view_look_up c.in-LookUp.field-0 c.in-LookUp.x c.in-LookUp.e c.in-LookUp.field)
+    rw (ap command_of c.in-LookUp.is ∙ view_look_up c.in-LookUp.field-0 c.in-LookUp.x c.in-LookUp.e
+    c.in-LookUp.field)
     (λ p within cell. c.look_up.ensures p (event_of c.args.event.now cell) c.in-LookUp.field-0)
 
 pub returns-in-Mutate : goal.returns-in-Mutate
 returns-in-Mutate c =
-    rw (ap command_of c.in-Mutate.is ∙ view_mutate c.in-Mutate.field-0 c.in-Mutate.e c.in-Mutate.field c.in-Mutate.v)
-    (λ p within cell. c.mutate.ensures p (event_of c.args.event.now cell) c.in-Mutate.field-0 within)
+    rw (ap command_of c.in-Mutate.is ∙ view_mutate c.in-Mutate.field-0 c.in-Mutate.e
+    c.in-Mutate.field c.in-Mutate.v)
+    (λ p within cell. c.mutate.ensures p (event_of c.args.event.now cell) c.in-Mutate.field-0
+    within)
 
 pub returns-in-Dispose : goal.returns-in-Dispose
 returns-in-Dispose c =
@@ -31,20 +34,26 @@ returns-in-New c =
 
 pub returns-in-If : goal.returns-in-If
 returns-in-If c =
-    rw (ap command_of c.in-If.is ∙ view_if c.in-If.field-0 c.in-If.test c.in-If.field-2 c.in-If.field-3)
-    (λ p within cell. c.choose.ensures (block_of c.in-If.field-2.items) (block_of c.in-If.field-3.items) p
+    rw (ap command_of c.in-If.is ∙ view_if c.in-If.field-0 c.in-If.test c.in-If.field-2
+    c.in-If.field-3)
+    (λ p within cell. c.choose.ensures (block_of c.in-If.field-2.items)
+    (block_of c.in-If.field-3.items) p
     (event_of c.args.event.now cell) c.in-If.field-0)
 
 pub returns-in-While : goal.returns-in-While
 returns-in-While c =
-    rw (ap command_of c.in-While.is ∙ view_while c.in-While.field-0 c.in-While.test c.in-While.field-2 c.in-While.field-3)
-    (λ p within cell. c.repeat.ensures (block_of c.in-While.field-3.items) (assertion_of c.in-While.field-2) p
+    rw (ap command_of c.in-While.is ∙ view_while c.in-While.field-0 c.in-While.test
+    c.in-While.field-2 c.in-While.field-3)
+    (λ p within cell. c.repeat.ensures (block_of c.in-While.field-3.items)
+    (assertion_of c.in-While.field-2) p
     (event_of c.args.event.now cell) c.in-While.field-0)
 
 pub returns-in-With : goal.returns-in-With
 returns-in-With c =
-    rw (ap command_of c.in-With.is ∙ view_with c.in-With.field-0 c.in-With.r c.in-With.test c.in-With.field-3)
-    (λ p within cell. c.enter.ensures (block_of c.in-With.field-3.items) p (event_of c.args.event.now cell)
+    rw (ap command_of c.in-With.is ∙ view_with c.in-With.field-0 c.in-With.r c.in-With.test
+    c.in-With.field-3)
+    (λ p within cell. c.enter.ensures (block_of c.in-With.field-3.items) p
+    (event_of c.args.event.now cell)
     c.in-With.field-0)
 
 pub returns-in-Call : goal.returns-in-Call
@@ -52,5 +61,8 @@ returns-in-Call c = λ p within cell.
     (c.in-Call.field-0, ap command_of c.in-Call.is ∙ view_call c.in-Call.field-0 c.in-Call.call)
 
 pub returns-in-Fork : goal.returns-in-Fork
-returns-in-Fork c = λ p within cell.
-    (c.in-Fork.field-0, ap command_of c.in-Fork.is ∙ view_fork c.in-Fork.field-0 c.in-Fork.one c.in-Fork.two)
+returns-in-Fork c = λ p within cell. (
+  c.in-Fork.field-0,
+  ap command_of c.in-Fork.is
+      ∙ view_fork c.in-Fork.field-0 c.in-Fork.one c.in-Fork.two,
+)

@@ -23,16 +23,20 @@ any_cell : Cell
 any_cell = λ field. nil
 
 pub returns-in-Edits-clause-plans : goal.returns-in-Edits-clause-plans
-returns-in-Edits-clause-plans c = λ cell. c.in-Edits.ensures (program_of c.args.p.now) c.requires.field cell
+returns-in-Edits-clause-plans c = λ cell. c.in-Edits.ensures
+    (program_of c.args.p.now) c.requires.field cell
 
 pub returns-in-Makes-clause-plans : goal.returns-in-Makes-clause-plans
-returns-in-Makes-clause-plans c = λ cell. c.in-Makes.ensures (program_of c.args.p.now) c.requires.field cell
+returns-in-Makes-clause-plans c = λ cell. c.in-Makes.ensures
+    (program_of c.args.p.now) c.requires.field cell
 
 pub returns-in-Enters-clause-plans : goal.returns-in-Enters-clause-plans
-returns-in-Enters-clause-plans c = λ cell. c.in-Enters.ensures (program_of c.args.p.now) c.requires.field cell
+returns-in-Enters-clause-plans c = λ cell. c.in-Enters.ensures
+    (program_of c.args.p.now) c.requires.field cell
 
 pub returns-in-Refused-clause-plans : goal.returns-in-Refused-clause-plans
-returns-in-Refused-clause-plans c = λ cell. c.in-Refused.ensures (program_of c.args.p.now) c.requires.field cell
+returns-in-Refused-clause-plans c = λ cell. c.in-Refused.ensures
+    (program_of c.args.p.now) c.requires.field cell
 
 pub plan_call-requires : goal.plan_call-requires
 plan_call-requires c =
@@ -48,7 +52,8 @@ returns-in-Calls-clause-plans c =
     let k = c.in-Calls.ensures (program_of c.args.p.now) c.requires.field any_cell in
     IfOk-weaker c.plan_call.result _ _ (λ plan plans cell.
     subst (λ (one : Command). Plans (program_of c.args.p.now) (event_of c.args.event.now cell)
-    (common_of c.args.shared.now) (fixed_of c.args.frame.now) one plan) (sym k.1) (plans cell k.0)) c.plan_call.ensures
+    (common_of c.args.shared.now) (fixed_of c.args.frame.now) one plan) (sym k.1) (plans cell k.0))
+    c.plan_call.ensures
 
 pub returns-in-Calls-clause-memory : goal.returns-in-Calls-clause-memory
 returns-in-Calls-clause-memory c =
@@ -70,7 +75,8 @@ returns-in-Forks-clause-plans c =
     let k = c.in-Forks.ensures (program_of c.args.p.now) c.requires.field any_cell in
     IfOk-weaker c.plan_fork.result _ _ (λ plan plans cell.
     subst (λ (one : Command). Plans (program_of c.args.p.now) (event_of c.args.event.now cell)
-    (common_of c.args.shared.now) (fixed_of c.args.frame.now) one plan) (sym k.1) (plans cell k.0)) c.plan_fork.ensures
+    (common_of c.args.shared.now) (fixed_of c.args.frame.now) one plan) (sym k.1) (plans cell k.0))
+    c.plan_fork.ensures
 
 pub returns-in-Forks-clause-memory : goal.returns-in-Forks-clause-memory
 returns-in-Forks-clause-memory c =

@@ -34,17 +34,21 @@ returns-clause-begins c =
         tasks = c.in_ok-tasks.tasks;
       }) refl
           (λ slot. c.in_ok-store.ensures slot
-          ∙ store_all p c.args.f s.beginning s.procedure c.args.vars.now (heap_of c.args.heap) s.config s.starts
+          ∙ store_all p c.args.f s.beginning s.procedure c.args.vars.now
+          (heap_of c.args.heap) s.config s.starts
           c.first_count.result rs (c.first_count.ensures.count s.procedure s.there
           ∙ ap (λ (b : Beginning). first_count b s.procedure) same) refl slot)
-          (holders_same p rs init s.beginning c.held_count.result (held_of c.in_ok-held.held) refl same
+          (holders_same p rs init s.beginning c.held_count.result
+          (held_of c.in_ok-held.held) refl same
           c.first_count.ensures.found c.held_count.ensures c.in_ok-held.ensures)
-          (used_first c.new-used.result c.insert.new.self c.new-used.ensures.empty c.in_ok-insert.ensures.updates.0)
+          (used_first c.new-used.result c.insert.new.self c.new-used.ensures.empty
+          c.in_ok-insert.ensures.updates.0)
           (c.in_ok-tasks.ensures s.procedure s.there
           ∙ ap (λ (b : Beginning). runs (first_frames b c.args.f s.procedure)) same);
     }
 
 pub returns-clause-reached : goal.returns-clause-reached
 unfolding returns-clause-begins
-returns-clause-reached c = reached_begin (program_of c.args.p.now) c.args.f c.args.fresh c.args.vars.now
+returns-clause-reached c = reached_begin (program_of c.args.p.now) c.args.f c.args.fresh
+    c.args.vars.now
     c.args.heap c.requires.0 _ c.requires.1 (returns-clause-begins c) refl

@@ -14,4 +14,5 @@ returns-in-Some c =
 pub returns-in-None : goal.returns-in-None
 returns-in-None c =
     let found = c.in-None.ensures.lookup in
-    ap slot_of c.spot.ensures ∙ sym (own_slot_none c.args.references.now c.args.self c.args.i found.3)
+    ap slot_of c.spot.ensures ∙ sym (own_slot_none c.args.references.now c.args.self c.args.i
+    found.3)

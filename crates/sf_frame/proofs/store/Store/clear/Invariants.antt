@@ -9,5 +9,6 @@ use Rattle.sf_frame.proofs.store.Store.clear.Given as goal
 -- what is left once the others vanish too
 abbrev pub invariant-loop-spot : goal.invariant-loop-spot
 invariant-loop-spot l = (slot : Slot)
-    → cond (is_some (lookup (is_at (spots (spot_of slot))) l.spot-iterator)) None (store_of l.self slot)
+    → cond (is_some (lookup (is_at (spots (spot_of slot))) l.spot-iterator)) None
+    (store_of l.self slot)
     ≡ cond (is_some (store_of l.other slot)) None (store_of l.initial.self slot)

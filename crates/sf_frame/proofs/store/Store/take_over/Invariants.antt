@@ -12,5 +12,6 @@ abbrev pub invariant-loop-spot : goal.invariant-loop-spot
 invariant-loop-spot l = record {
   done : (slot : Slot) → lookup (is_at (spots (spot_of slot))) l.spot-iterator ≡ None
       → store_of l.self slot ≡ option_or (store_of l.other slot) (store_of l.initial.self slot);
-  others : (slot : Slot) → store_of l.other slot ≡ None → store_of l.self slot ≡ store_of l.initial.self slot;
+  others : (slot : Slot) → store_of l.other slot ≡ None
+      → store_of l.self slot ≡ store_of l.initial.self slot;
 }

@@ -4,7 +4,9 @@ use Rattle.sf_machine.specs.Tasks.{task_of}
 use Rattle.sf_machine.proofs.task.Task.reserve.Goals as goal
 
 pub returns-in_err-reserve_in-clause-same : goal.returns-in_err-reserve_in-clause-same
-returns-in_err-reserve_in-clause-same c = ap runs c.reserve_in.ensures.same ∙ sym (ap task_of c.in-Runs.is)
+returns-in_err-reserve_in-clause-same c = ap runs c.reserve_in.ensures.same
+    ∙ sym (ap task_of c.in-Runs.is)
 
 pub returns-in_ok-reserve_in-clause-same : goal.returns-in_ok-reserve_in-clause-same
-returns-in_ok-reserve_in-clause-same c = ap runs c.reserve_in.ensures.same ∙ sym (ap task_of c.in-Runs.is)
+returns-in_ok-reserve_in-clause-same c = ap runs c.reserve_in.ensures.same
+    ∙ sym (ap task_of c.in-Runs.is)
