@@ -1,3 +1,7 @@
+pub mod Ranges
+pub mod Occur
+pub mod Sites
+pub mod Owned
 pub mod Unions
 pub mod Supplies
 pub mod Order

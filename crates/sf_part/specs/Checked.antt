@@ -5,3 +5,6 @@ pub mod LawsOfTime
 pub mod LawsOfWhole
 pub mod LawsOfGiving
 pub mod Examples
+pub mod Ranges
+pub mod Standing
+pub mod KeepsIsProp

@@ -3,4 +3,9 @@ pub mod Steps
 pub mod Supplied
 pub mod First
 pub mod Given
+pub mod Of
+pub mod Stands
+pub mod Keeps
+pub mod Parts
+pub mod PartView
 pub mod Checked

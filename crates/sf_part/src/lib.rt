@@ -9,5 +9,12 @@
 
 pub mod examples;
 pub mod laws;
+mod log;
+mod part;
+mod stand;
+mod supply;
 pub mod time;
 pub mod whole;
+
+pub use log::Stamped;
+pub use part::Part;
