@@ -2,6 +2,9 @@ pub mod Ranges
 pub mod Occur
 pub mod Sites
 pub mod Owned
+pub mod Ready
+pub mod Planned
+pub mod Returning
 pub mod Unions
 pub mod Supplies
 pub mod Order
@@ -10,6 +13,7 @@ pub mod Tasks
 pub mod Shares
 pub mod Leads
 pub mod Acts
+pub mod Unmade
 pub mod Beside
 pub mod Private
 pub mod Regions
@@ -18,6 +22,8 @@ pub mod Forks
 pub mod Numbers
 pub mod Firsts
 pub mod Times
+pub mod Performed
+pub mod Made
 pub mod Seen
 pub mod Giving
 pub mod Worked

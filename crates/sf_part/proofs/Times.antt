@@ -42,7 +42,7 @@ noted-none true e h = absurd (true≢false h)
 noted-none false e h = refl
 
 -- an event leaves a part in time that had room for it
-notes-in_time : (clock : ℕ) (log : List Stamped) (event : Event) (a b : TimedPart)
+pub notes-in_time : (clock : ℕ) (log : List Stamped) (event : Event) (a b : TimedPart)
     → Notes clock log event a b
     → AllByRecursion (λ (e : Stamped). e.stamp ≤ clock) log → (a.keeps ≡ false → log ≡ [])
     → clock + suc (length (numbers b.part.supply)) ≤ STEPS → IsInTime b

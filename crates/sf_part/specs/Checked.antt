@@ -8,3 +8,5 @@ pub mod Examples
 pub mod Ranges
 pub mod Standing
 pub mod KeepsIsProp
+pub mod Meeting
+pub mod Stepping

@@ -6,6 +6,7 @@ pub mod Given
 pub mod Of
 pub mod Stands
 pub mod Keeps
+pub mod Answers
 pub mod Parts
 pub mod PartView
 pub mod Checked

@@ -9,12 +9,15 @@
 
 pub mod examples;
 pub mod laws;
+mod local;
 mod log;
 mod part;
 mod stand;
+mod stepping;
 mod supply;
 pub mod time;
 pub mod whole;
 
+pub use local::Local;
 pub use log::Stamped;
 pub use part::Part;
