@@ -24,6 +24,7 @@ pub mod Firsts
 pub mod Times
 pub mod Performed
 pub mod Made
+pub mod Guarded
 pub mod Seen
 pub mod Giving
 pub mod Worked

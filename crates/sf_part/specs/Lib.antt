@@ -7,6 +7,8 @@ pub mod Of
 pub mod Stands
 pub mod Keeps
 pub mod Answers
+pub mod Contents
+pub mod Guards
 pub mod Parts
 pub mod PartView
 pub mod Checked

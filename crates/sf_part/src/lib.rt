@@ -7,7 +7,9 @@
 //! - `examples`: one event of each kind, and what there isn't.
 #![tactic(auto)]
 
+mod content;
 pub mod examples;
+mod guard;
 pub mod laws;
 mod local;
 mod log;
@@ -18,6 +20,7 @@ mod supply;
 pub mod time;
 pub mod whole;
 
+pub use content::Content;
 pub use local::Local;
 pub use log::Stamped;
 pub use part::Part;
