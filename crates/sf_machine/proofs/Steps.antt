@@ -24,12 +24,13 @@ use Rattle.sf_core.specs.Machine.SpentSteps.{NeedsNoChild}
 use Rattle.sf_core.proofs.Machine.Laws.{exits_are_of_held_resources}
 use Rattle.sf_machine.specs.Answers.{CommandRefuses, FindsNone as AnswersNone, HasToWait as AnswersWait, IsGoing, IsRefused, Refuses}
 use Rattle.sf_frame.specs.declared.effect.Effect.{Effect}
-use Rattle.sf_frame.specs.declared.effect.Effect.TheVariants.{Nothing as no_effect, Free, OpenBoth, Close}
+use Rattle.sf_frame.specs.declared.effect.Edit.TheVariants.{Nothing as no_edit, Free, Close}
+use Rattle.sf_frame.specs.declared.effect.Effect.TheVariants.{Edits, OpenBoth}
 use Rattle.sf_machine.specs.declared.event.Stepped.{Stepped}
 use Rattle.sf_machine.specs.declared.event.Stepped.TheVariants.{Moved, Absent, Waiting, NoTask, Stale, TooDeep}
 use Rattle.sf_machine.specs.declared.following.Next.{Next as Found}
 use Rattle.sf_machine.specs.declared.following.Next.TheVariants.{Does, Leaves, Returns, Joins, Nothing}
-use Rattle.sf_frame.specs.declared.frame.GoOn.{GoOn}
+use Rattle.sf_frame.specs.declared.frame.Way.TheVariants.{Past}
 use Rattle.sf_frame.specs.declared.frame.Room.{Room as CodeRoom}
 use Rattle.sf_machine.specs.declared.plan.Plan.{Plan}
 use Rattle.sf_machine.specs.declared.plan.Plan.TheVariants.{Acts, Refused}
@@ -54,7 +55,6 @@ use Rattle.sf_machine.specs.Tasks.{task_of}
 use Rattle.sf_frame.specs.Checked.Plans.{Plans}
 use Rattle.sf_frame.specs.Frames.{room_of}
 use Rattle.sf_machine.specs.Checked.Tasks.{at_path, moved}
-use Rattle.sf_frame.specs.Checked.Frames.{goes_on, rest_of}
 use Rattle.sf_machine.proofs.Enabling.{busy_goes, done_goes}
 
 -- what a task's frames do next it does
@@ -285,18 +285,18 @@ plan_does p ev c f below one rest (refused why) (Acts e Join) fresh there h k = 
 
 -- the exit from a region
 pub plan_leaves : (p : Program) (g : Procedure) (ev : Event) (c : Config) (f : Fixed) (below : List Frame) (r : ResId)
-    (rest : List Item) (on : GoOn) → IsInOrder p g c → c.used ev.number ≡ false
+    (rest : List Item) → IsInOrder p g c → c.used ev.number ≡ false
     → task_at ev.task c.tasks ≡ Some (task_with f (leave r ∷ rest) below)
-    → ((todo : List Item) → goes_on on todo ≡ rest_of todo) → PlansEvent p ev c (Acts (Free r) (Steps (go_on on)))
+    → PlansEvent p ev c (Acts (Edits (Free r)) (Steps (go_on Past)))
 unfolding ExitsAreOfHeldResources
-plan_leaves p g ev c f below r rest on o fresh there after = record {
+plan_leaves p g ev c f below r rest o fresh there = record {
   fresh = fresh;
   task = task_with f (leave r ∷ rest) below;
   there = there;
   steps = (
     exits_are_of_held_resources p g c ev.task f below r rest o there,
     refl,
-    λ i. task_with f (after (leave r ∷ rest) i) below,
+    refl,
   );
   suits = tt;
   within = tt;
@@ -314,7 +314,7 @@ pub plan_returns : (p : Program) (ev : Event) (c : Config) (f : Fixed) (below : 
     (room : CodeRoom) (all : Bool) (n : ℕ) → c.used ev.number ≡ false
     → task_at ev.task c.tasks ≡ Some (task_with f [] below) → f.room ≡ room_of room → n ≡ length ev.task
     → ((n == 0) ≡ true → below ≢ []) → f.procedure ≡ g → all ≡ sets_up p g
-    → PlansEvent p ev c (Acts (Close room all) (Steps Return))
+    → PlansEvent p ev c (Acts (Edits (Close room all)) (Steps Return))
 plan_returns p ev c f below g room all n fresh there is e k who so = record {
   fresh = fresh;
   task = task_with f [] below;
@@ -331,7 +331,7 @@ plan_returns p ev c f below g room all n fresh there is e k who so = record {
 -- a join
 pub plan_joins : (p : Program) (ev : Event) (c : Config) (frames : List Frame) (one two : Task)
     → c.used ev.number ≡ false → task_at ev.task c.tasks ≡ Some (waits frames one two) → IsOver one → IsOver two
-    → PlansEvent p ev c (Acts no_effect Join)
+    → PlansEvent p ev c (Acts (Edits no_edit) Join)
 plan_joins p ev c frames one two fresh there a b = record {
   fresh = fresh;
   task = waits frames one two;
