@@ -23,7 +23,8 @@ use Rattle.sf_frame.specs.Checked.Nexts.{frames_with}
 use Rattle.sf_frame.specs.Checked.Plans.{IsReady, PlansCommand}
 use Rattle.sf_frame.specs.declared.calling.Callee.{Callee}
 use Rattle.sf_frame.specs.declared.effect.Effect.{Effect}
-use Rattle.sf_frame.specs.declared.effect.Effect.TheVariants.{Nothing, Set, Put, Make, Remove, Hold, Free, Open, OpenBoth, Close}
+use Rattle.sf_frame.specs.declared.effect.Edit.TheVariants.{Nothing, Set, Put, Remove, Free, Close}
+use Rattle.sf_frame.specs.declared.effect.Effect.TheVariants.{Edits, Make, Hold, Open, OpenBoth}
 use Rattle.sf_frame.specs.declared.plan.Plan.TheVariants.{Acts as acts, Forks as forks, Refused as refused}
 use Rattle.sf_frame.specs.declared.refusal.Refusal.{Refusal}
 use Rattle.sf_frame.specs.declared.stack.Change.{Change}
@@ -56,16 +57,16 @@ blank-cell n values e = λ i. λ field. (ap (λ z. slice_index_or z field nil) e
 -- a field that is set is there
 field-there : (p : Program) (effect : Effect) (cells : Cells) → HasWidth (length p.fields) cells
     → EffectWithin p effect → HasField effect cells
-field-there p (Put at f v) cells w e = λ values h. subst (λ z. f.0 < z) (sym (w at values h)) e
-field-there p Nothing cells w e = tt
-field-there p (Set spot v) cells w e = tt
+field-there p (Edits (Put at f v)) cells w e = λ values h. subst (λ z. f.0 < z) (sym (w at values h)) e
+field-there p (Edits Nothing) cells w e = tt
+field-there p (Edits (Set spot v)) cells w e = tt
+field-there p (Edits (Remove at)) cells w e = tt
+field-there p (Edits (Free r)) cells w e = tt
+field-there p (Edits (Close room all)) cells w e = tt
 field-there p (Make spot) cells w e = tt
-field-there p (Remove at) cells w e = tt
 field-there p (Hold r) cells w e = tt
-field-there p (Free r) cells w e = tt
 field-there p (Open o) cells w e = tt
 field-there p (OpenBoth o q) cells w e = tt
-field-there p (Close room all) cells w e = tt
 
 -- a task that has something to do hasn't ended
 not-ended : (path : Path) (f : Fixed) (i : Item) (rest : List Item) (below : List Frame)

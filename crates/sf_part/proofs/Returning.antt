@@ -15,7 +15,8 @@ use Rattle.sf_core.specs.Program.Init.{sets_up}
 use Rattle.sf_core.specs.Program.Syntax.{Program}
 use Rattle.sf_frame.specs.Commons.{common_of}
 use Rattle.sf_frame.specs.Checked.Nexts.{frames_with}
-use Rattle.sf_frame.specs.declared.effect.Effect.TheVariants.{Close}
+use Rattle.sf_frame.specs.declared.effect.Edit.TheVariants.{Close}
+use Rattle.sf_frame.specs.declared.effect.Effect.TheVariants.{Edits}
 use Rattle.sf_frame.specs.declared.frame.Room.{Room as CodeRoom}
 use Rattle.sf_frame.specs.declared.stack.Change.TheVariants.{Return}
 use Rattle.sf_frame.specs.Frames.{room_of}
@@ -61,7 +62,7 @@ module _ (p : Program) (a : Part) (f : Fixed) (below : List Frame)
     frames-of = subst (StandIsOf p (common_of a.shared).store) stand of.is.stands
 
     steps : TaskStep p (own_event a number) (common_of a.shared) (runs (frames_with f [] below))
-        (acted a number (Close room false)) (runs below)
+        (acted a number (Edits (Close room false))) (runs below)
     steps = (
       called a.task below alone,
       (λ i. free_all_if (sym init i) (close_room (sym same i) (common_of a.shared))),
@@ -82,14 +83,14 @@ module _ (p : Program) (a : Part) (f : Fixed) (below : List Frame)
         (has (drop 1 (numbers a.supply)))) (sym units)
         (drop 1 (numbers a.supply), (refl, refl), refl)
 
-    goes : Goes p (common_of a.shared) (frames_with f [] below) (acted a number (Close room false)) (runs below)
-    goes = goes-return p (common_of a.shared) f below (acted a number (Close room false)) (runs below) init
+    goes : Goes p (common_of a.shared) (frames_with f [] below) (acted a number (Edits (Close room false))) (runs below)
+    goes = goes-return p (common_of a.shared) f below (acted a number (Edits (Close room false))) (runs below) init
         frames-of steps.1 refl
 
     same-frames : goes.frames ≡ below
     same-frames = let e = goes.is in cc
 
-    pub return-acts : PlansOf p a (frames_with f [] below) (Acts number (Close room false) Return)
+    pub return-acts : PlansOf p a (frames_with f [] below) (Acts number (Edits (Close room false)) Return)
     return-acts = (
       (
         return-goes,
@@ -104,11 +105,11 @@ module _ (p : Program) (a : Part) (f : Fixed) (below : List Frame)
         own = record {
           suits = tt;
           field = tt;
-          unmade = unmade-after p (own_event a number) (common_of a.shared) (acted a number (Close room false))
+          unmade = unmade-after p (own_event a number) (common_of a.shared) (acted a number (Edits (Close room false)))
               (returns f below) (runs below) steps slots (λ location m. absurd m);
           held = goes.held;
         };
-        of = subst (FramesAreOf p (acted a number (Close room false)).store) same-frames goes.of;
+        of = subst (FramesAreOf p (acted a number (Edits (Close room false))).store) same-frames goes.of;
         regions = λ r. ap (regions p r) (sym same-frames) ∙ goes.regions r;
       },
     )

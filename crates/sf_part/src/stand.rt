@@ -20,13 +20,14 @@ pub(crate) enum Stand<'p> {
 }
 
 impl<'p> Stand<'p> {
-    /// Takes room for a change of the frames. An `Err` says that memory ran out.
-    pub(crate) fn reserve(&mut self) -> Result<(), AllocError>
+    /// Takes room for a change of the frames: only a call wants memory. An `Err` says that it ran
+    /// out.
+    pub(crate) fn reserve(&mut self, change: &Change<'p>) -> Result<(), AllocError>
         ensures same { stand_in self.new ≡ stand_in self.old }
-        ensures ok { OnOk result (HasStandRoom self.new) }
+        ensures ok { OnOk result (HasStandRoom change.now self.new) }
     {
         match self {
-            Stand::Runs(stack) => stack.reserve(),
+            Stand::Runs(stack) => stack.reserve(change),
             Stand::Waits(_) => Ok(()),
             Stand::Over => Ok(()),
         }
@@ -35,7 +36,7 @@ impl<'p> Stand<'p> {
     /// How the task stands once its frames have changed.
     pub(crate) fn changed(self, change: Change<'p>) -> Stand<'p>
         requires runs { Runs self }
-        requires room { HasStandRoom self }
+        requires room { HasStandRoom change self }
         ensures { stand_in result ≡ running (moved change.entry (frames_in (stand_in self.entry))) }
     {
         match self {

@@ -23,7 +23,9 @@ use crate::part::Part;
 use crate::stand::Stand;
 use sf_base::ProcId;
 use sf_core::{Command, Program};
-use sf_frame::{Change, Effect, Frame, Next, Refusal, Room, Stamp, apply, next_of, plan_command};
+use sf_frame::{
+    Change, Edit, Effect, Frame, Next, Refusal, Room, Stamp, apply, next_of, plan_command,
+};
 use std::alloc::AllocError;
 use std::mem::replace;
 
@@ -82,7 +84,7 @@ impl<'p> Part<'p> {
             number,
             at: number,
         };
-        self.stand.reserve()?;
+        self.stand.reserve(&change)?;
         apply(&mut self.shared, &stamp, &self.blank, effect)?;
         let stand = replace(&mut self.stand, Stand::Over);
         self.stand = stand.changed(change);
@@ -154,7 +156,7 @@ fn plan_return<'p>(part: &Part<'p>, p: &Program, g: ProcId, room: Room) -> Plan<
     }
     Plan::Acts(
         part.supply.next(),
-        Effect::Close(room, false),
+        Effect::Edits(Edit::Close(room, false)),
         Change::Return,
     )
 }

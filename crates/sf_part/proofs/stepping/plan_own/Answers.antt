@@ -20,7 +20,7 @@ plan_command-requires c = own-ready (program_of c.args.p.now) c.args.p.now.forme
 pub missed-requires : goal.missed-requires
 missed-requires c =
     let planned = rw c.in-Refused.is at
-    (c.in_ok-effect.ensures (cell_of c.args.part.now.blank) c.requires.next.2.0 c.requires.next.2.1) in
+    (c.in_ok-effect.ensures.plans (cell_of c.args.part.now.blank) c.requires.next.2.0 c.requires.next.2.1) in
     let m = own-missing (program_of c.args.p.now) c.args.p.now.formed c.args.part.now
     c.args.part.now.kept c.requires.of c.next-number.result c.next-number.ensures (fixed_of c.args.frame.now)
     c.requires.next.2.0 (command_of c.args.command.now) c.requires.next.2.1 c.in_default.ensures
@@ -29,7 +29,7 @@ missed-requires c =
 pub unreachable-requires : goal.unreachable-requires
 unreachable-requires c =
     let planned = rw c.in-Forks.is at
-    (c.in_ok-effect.ensures (cell_of c.args.part.now.blank) c.requires.next.2.0 c.requires.next.2.1) in
+    (c.in_ok-effect.ensures.plans (cell_of c.args.part.now.blank) c.requires.next.2.0 c.requires.next.2.1) in
     own-runs (program_of c.args.p.now) c.args.p.now.formed c.args.part.now
     c.args.part.now.kept c.requires.of c.next-number.result c.next-number.ensures (fixed_of c.args.frame.now)
     c.requires.next.2.0 (command_of c.args.command.now) c.requires.next.2.1 c.in_default.ensures
@@ -38,7 +38,7 @@ unreachable-requires c =
 pub returns-in-Acts : goal.returns-in-Acts
 returns-in-Acts c =
     let planned = rw c.in-Acts.is at
-    (c.in_ok-effect.ensures (cell_of c.args.part.now.blank) c.requires.next.2.0 c.requires.next.2.1) in (
+    (c.in_ok-effect.ensures.plans (cell_of c.args.part.now.blank) c.requires.next.2.0 c.requires.next.2.1) in (
       frames_with (fixed_of c.args.frame.now) (command (command_of c.args.command.now) ∷ c.requires.next.2.1)
           c.requires.next.2.0,
       c.requires.next.1 ∙ ap running c.requires.next.2.2,
@@ -54,7 +54,7 @@ returns-in-Refused c =
     let frames = frames_with (fixed_of c.args.frame.now)
     (command (command_of c.args.command.now) ∷ c.requires.next.2.1) c.requires.next.2.0 in
     let planned = rw c.in-Refused.is at
-    (c.in_ok-effect.ensures (cell_of c.args.part.now.blank) c.requires.next.2.0 c.requires.next.2.1) in
+    (c.in_ok-effect.ensures.plans (cell_of c.args.part.now.blank) c.requires.next.2.0 c.requires.next.2.1) in
     let m = own-missing (program_of c.args.p.now) c.args.p.now.formed c.args.part.now
     c.args.part.now.kept c.requires.of c.next-number.result c.next-number.ensures (fixed_of c.args.frame.now)
     c.requires.next.2.0 (command_of c.args.command.now) c.requires.next.2.1 c.in_default.ensures
