@@ -25,6 +25,9 @@ pub mod Times
 pub mod Performed
 pub mod Made
 pub mod Guarded
+pub mod Taking
+pub mod Entries
+pub mod Entrance
 pub mod Seen
 pub mod Giving
 pub mod Worked

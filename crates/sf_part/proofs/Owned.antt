@@ -91,6 +91,41 @@ module _ (p : Program) (formed : IsFormed p) (f : Fixed) (c : Command) (rest : L
         ],
       )
 
+  -- or it is one of the resource whose region it enters
+  pub variable-near : (x : Occurrence) → Contains (occurrences_at c) x
+      → IsVariable p now g x.var ⊎ ((r : ResId) × (i : ℕ) × (x.var ≡ Shared r i) × Contains (head_regions c) r
+      × (i < variable_count (slice_get p.resources r.0)))
+  variable-near x h = go x.var refl (in-body x h)
+    where
+      go : (y : Var) → x.var ≡ y → IsInBody p g y → IsVariable p now g y
+          ⊎ ((r : ResId) × (i : ℕ) × (y ≡ Shared r i) × Contains (head_regions c) r
+          × (i < variable_count (slice_get p.resources r.0)))
+      go (Own n) e k = inl k
+      go (Shared r i) e k = elim (among_or_not (head_regions c ++ inside rest) r) [
+        | inl m ↦ elim (Contains-append_cases (head_regions c) (inside rest) r m) [
+          | inl entered ↦ inr (r, i, refl, entered, k)
+          | inr before ↦ inl (k, inr (inl before))
+        ]
+        | inr m ↦ inl (
+          k,
+          inl (
+            tt,
+            directly (
+              g,
+              there,
+              inr (inr (
+                record { entered = inside rest; command = c },
+                here,
+                (
+                  m,
+                  subst (λ z. IsAmong z (occurrences_at c)) e (among (occurrences_at c) x h),
+                ),
+              )),
+            ),
+          ),
+        )
+      ]
+
   -- so is one that is free in a procedure that it calls
   pub variable-called : (d : Call) → Contains (head_calls c) d → (r : ResId) (i : ℕ)
       → i < variable_count (slice_get p.resources r.0) → Free p d.callee (Shared r i)
@@ -111,7 +146,7 @@ module _ (p : Program) (formed : IsFormed p) (f : Fixed) (c : Command) (rest : L
   )
 
 -- Stores that grow
-grows-cond : (b : Bool) (x y : Option Value) → (is_some x ≡ true → is_some y ≡ true)
+pub grows-cond : (b : Bool) (x y : Option Value) → (is_some x ≡ true → is_some y ≡ true)
     → is_some (cond b None x) ≡ true → is_some (cond b None y) ≡ true
 grows-cond true x y g h = h
 grows-cond false x y g h = g h

@@ -1,11 +1,12 @@
 -- What a part keeps where its pieces change: nothing is lost where they stay as they are, and an event spends a
 -- unit.
 -- Names: `same-LAW` of pieces that stay, `performed-LAW` of an event.
-use Rattle.std.specs.Prelude.{◌≡◌, ◌≢◌, ◌==◌, ◌≤◌, ℕ, suc, Bool, List, ◌∷◌, length, map, Option, Result, Ok, Err, OnErr, Contains, is_some}
+use Rattle.std.specs.Prelude.{◌≡◌, ◌≢◌, ◌==◌, ◌+◌, ◌≤◌, ℕ, suc, Bool, List, ◌∷◌, length, map, Option, Result, Ok, Err, OnErr, Contains, is_some}
 use Rattle.std.proofs.Common.{sym, ap, ◌∙◌, refl, subst, inl, inr, arith}
 use Rattle.std.proofs.lemmas.Bool.Decides.{eqb_tells}
 use Rattle.sf_base.proofs.Elements.{contains-rest}
 use Rattle.sf_base.specs.declared.ids.ResId.{ResId}
+use Rattle.sf_base.specs.declared.limits.TheConstants.{STEPS}
 use Rattle.sf_core.specs.Machine.Config.{Path, Common}
 use Rattle.sf_core.specs.Machine.Step.{Event}
 use Rattle.sf_core.specs.Machine.Whole.{Range, numbers}
@@ -20,7 +21,7 @@ use Rattle.sf_part.specs.Parts.{entry_of, part_with}
 use Rattle.sf_part.specs.Stands.{stand_in}
 use Rattle.sf_part.specs.Timed.{Notes, TimedPart}
 use Rattle.sf_part.proofs.Supplies.{count-cons, count-contains, one_if, times}
-use Rattle.sf_part.proofs.Times.{notes-in_time}
+use Rattle.sf_part.proofs.Times.{logged-later, notes-in_time}
 
 -- a fact holds on an error
 pub on-err : {T E : Type 0} {P : Type 0} (r : Result T E) → P → OnErr r P
@@ -78,21 +79,24 @@ spent-once n us vs e once m =
     let h = once m in
     omega arith
 
--- what a part keeps after an event of its own
-pub performed-keeps : (event : Event) (a b : TimedPart) → Keeps a
+-- what a part keeps after an event, from a clock on that leaves room for its units
+pub performed-keeps : (event : Event) (clock : ℕ) (a b : TimedPart) → Keeps a
     → numbers a.part.supply ≡ event.number ∷ numbers b.part.supply
-    → ((n : ℕ) → n ≢ event.number → IsUnmade a.part.heap a.part.store n
-    → IsUnmade b.part.heap b.part.store n)
-    → (IsWaiting b.part.stand → ⊥) → Notes a.clock a.log event a b → Keeps b
-performed-keeps event a b k units unmade runs notes = record {
+    → ((n : ℕ) → Contains (numbers a.part.supply) n → n ≢ event.number
+    → IsUnmade a.part.heap a.part.store n → IsUnmade b.part.heap b.part.store n)
+    → (IsWaiting b.part.stand → ⊥) → a.clock ≤ clock
+    → clock + length (numbers a.part.supply) ≤ STEPS → Notes clock a.log event a b → Keeps b
+performed-keeps event clock a b k units unmade runs later within notes = record {
   once = spent-once event.number (numbers a.part.supply) (numbers b.part.supply) units k.once;
-  unmade = λ n h. unmade n
+  unmade = λ n h.
+      let there : Contains (numbers a.part.supply) n = subst (λ z. Contains z n) (sym units)
+      (contains-rest event.number (numbers b.part.supply) n h) in
+      unmade n there
       (spent-other event.number (numbers a.part.supply) (numbers b.part.supply) n units (k.once event.number) h)
-      (k.unmade n (subst (λ z. Contains z n) (sym units)
-      (contains-rest event.number (numbers b.part.supply) n h)));
+      (k.unmade n there);
   waiting = λ h. absurd (runs h);
   time =
       let left : length (numbers a.part.supply) ≡ suc (length (numbers b.part.supply)) = ap length units in
-      let within = (k.time).within in
-      notes-in_time a.clock a.log event a b notes (k.time).logged (k.time).unlogged (omega arith);
+      notes-in_time clock a.log event a b notes (logged-later a.clock clock a.log later (k.time).logged)
+      (k.time).unlogged (omega arith);
 }

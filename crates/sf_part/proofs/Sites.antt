@@ -5,9 +5,12 @@ use Rattle.std.proofs.Common.{sym, ap, ◌∙◌, refl, subst, inl, inr, append_
 use Rattle.std.proofs.lemmas.List.Elements.{Contains-append_cases, Contains-append_left, Contains-append_right}
 use Rattle.sf_base.proofs.Elements.{contains-cons, contains-nil, contains-rest}
 use Rattle.sf_base.specs.declared.ids.ResId.{ResId}
-use Rattle.sf_core.specs.Machine.Config.{Item, command, items}
+use Rattle.sf_base.specs.declared.place.Place.{Place}
+use Rattle.sf_core.specs.declared.assertion.Test.{Test}
+use Rattle.sf_core.specs.declared.command.Expr.{Expr}
+use Rattle.sf_core.specs.Machine.Config.{Item, command, leave, items}
 use Rattle.sf_core.specs.Program.Heads.{Site, sites, inner_sites}
-use Rattle.sf_core.specs.Program.Syntax.{Block, done, then, Command}
+use Rattle.sf_core.specs.Program.Syntax.{Block, done, then, Command, with}
 use Rattle.sf_core.proofs.Machine.Decided.{resource-or_not}
 use Rattle.sf_part.specs.Of.{inside, sites_in}
 
@@ -89,3 +92,15 @@ among_or_not (q ∷ rs) r = elim (resource-or_not r q) [
     | inr h ↦ inr (λ k. elim ((contains-cons q rs r).0 k) [ inl e ↦ n (sym e) | inr l ↦ h l ])
   ]
 ]
+
+-- the body of a region, before its exit
+pub sites-enter : (place : Place) (r : ResId) (test : Test Expr) (body : Block) (rest : List Item)
+    → StandIn (items body ++ (leave r ∷ rest)) (command (with place r test body) ∷ rest)
+sites-enter place r test body rest s h =
+    elim (Contains-append_cases (sites (r ∷ inside rest) body) (sites_in rest) s
+    (subst (λ z. Contains z s) (sites-items body (leave r ∷ rest)) h)) [
+      | inl k ↦ contains-rest (record { entered = inside rest; command = with place r test body })
+          (sites (r ∷ inside rest) body ++ sites_in rest) s
+          (Contains-append_left (sites (r ∷ inside rest) body) (sites_in rest) s k)
+      | inr k ↦ sites-rest (with place r test body) rest s k
+    ]

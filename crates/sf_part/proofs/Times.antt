@@ -25,7 +25,7 @@ stamps_rise p event a b = (
 )
 
 -- stamps that are at most a number are at most a greater one
-logged-later : (low high : ℕ) (log : List Stamped) → low ≤ high
+pub logged-later : (low high : ℕ) (log : List Stamped) → low ≤ high
     → AllByRecursion (λ (e : Stamped). e.stamp ≤ low) log
     → AllByRecursion (λ (e : Stamped). e.stamp ≤ high) log
 logged-later low high [] l h = tt

@@ -10,3 +10,4 @@ pub mod Standing
 pub mod KeepsIsProp
 pub mod Meeting
 pub mod Stepping
+pub mod Taking

@@ -9,6 +9,7 @@ pub mod Keeps
 pub mod Answers
 pub mod Contents
 pub mod Guards
+pub mod Entry
 pub mod Parts
 pub mod PartView
 pub mod Checked

@@ -8,12 +8,14 @@
 #![tactic(auto)]
 
 mod content;
+mod entering;
 pub mod examples;
 mod guard;
 pub mod laws;
 mod local;
 mod log;
 mod part;
+mod spots;
 mod stand;
 mod stepping;
 mod supply;

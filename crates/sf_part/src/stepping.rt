@@ -101,7 +101,7 @@ impl<'p> Part<'p> {
 }
 
 /// Appends an entry to a log, where it is kept.
-fn note(log: &mut Vec<Stamped>, keeps: bool, entry: Stamped)
+pub(crate) fn note(log: &mut Vec<Stamped>, keeps: bool, entry: Stamped)
     requires { keeps ≡ true → vec_len log.old + 1 ≤ vec_capacity log.old }
     ensures { map entry_of log.new.items
         ≡ map entry_of log.old.items ++ noted keeps (entry_of entry) }

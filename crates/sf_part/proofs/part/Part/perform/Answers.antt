@@ -38,14 +38,16 @@ invariant_of-self-2 c =
     same-common (common_of c.apply.new.shared) (acted c.args.self.now c.args.number c.args.effect)
     c.in_ok-apply.ensures.ok in
     record {
-      kept = performed-keeps (own_event c.args.self.now c.args.number) (part_of c.args.self.now)
+      kept = performed-keeps (own_event c.args.self.now c.args.number) c.args.self.now.clock
+          (part_of c.args.self.now)
           (part_with c.args.self.now.task c.changed.result c.apply.new.shared c.spend.new.self
           (c.args.self.now.clock + 1) c.args.self.now.keeps c.note.new.log.items c.args.self.now.given)
           c.args.self.now.kept
           (c.requires.next ∙ ap (λ z. c.args.number ∷ z) (sym c.spend.ensures))
-          (λ n other h. subst (λ (z : Common). IsUnmade z.heap z.store n) (sym common)
+          (λ n there other h. subst (λ (z : Common). IsUnmade z.heap z.store n) (sym common)
           (c.requires.own.unmade n other h))
-          (subst (λ z. IsWaiting z → ⊥) (sym c.changed.ensures) (λ h. h))
+          (subst (λ z. IsWaiting z → ⊥) (sym c.changed.ensures) (λ h. h)) (omega arith)
+          c.args.self.now.kept.time.within
           (record { keeps = refl; given = refl; clock_is = omega arith; log_is = c.note.ensures });
       own = same-own c.args.self.now.task c.args.self.now.shared c.apply.new.shared
           (ap (λ (z : Common). z.held) common ∙ c.requires.own.held) c.args.self.now.own;
