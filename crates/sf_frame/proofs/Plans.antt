@@ -1,6 +1,6 @@
 -- What the code plans for the event of a command.
 -- Names: `plan_KIND` for each kind of command, `refuse_KIND` where its event is none, `room_LAW` of rooms that come up.
-use Rattle.std.specs.Prelude.{◌≡◌, ℕ, ◌+◌, ◌*◌, ◌-◌, ◌<◌, ◌≤◌, Bool, true, false, cond, get_or, List, [], ◌∷◌, length, map, Some, None, Result, Ok, Err, IfOk, OnErr}
+use Rattle.std.specs.Prelude.{◌≡◌, ℕ, ◌+◌, ◌*◌, ◌-◌, ◌<◌, ◌≤◌, Bool, true, false, cond, get_or, List, [], ◌∷◌, length, map, Some, None, Result, Ok, Err, OnErr}
 use Rattle.std.specs.List.{slice_get}
 use Rattle.std.specs.Option.{option_map}
 use Rattle.std.proofs.Common.{true≢false, sym, ap, ◌∙◌, refl, inl, inr, arith}
@@ -22,11 +22,6 @@ use Rattle.sf_frame.specs.declared.stack.Change.TheVariants.{Call as calls}
 use Rattle.sf_frame.specs.Checked.Effects.{opened, opened_store, IsClearStore}
 use Rattle.sf_frame.specs.Checked.Plans.{PlansCall, PlansFork}
 use Rattle.sf_frame.specs.Frames.{frame_of, room_of}
-
--- what holds of a value that is there, and makes something else hold of it
-pub ok_map : {A E : Type 0} {P Q : A → Type 0} (r : Result A E) → IfOk r P → ((x : A) → P x → Q x) → IfOk r Q
-ok_map (Ok x) h f = f x h
-ok_map (Err e) h f = tt
 
 -- what holds anyway holds of a refusal
 pub on_err : {A E P : Type 0} (r : Result A E) → P → OnErr r P

@@ -1,6 +1,7 @@
 -- Why an event is none: that no event has two answers.
 -- Names: `moved_LAW` where there is a next configuration, `same_LAW` where two reasons are one.
 use Rattle.std.specs.Prelude.{◌≡◌, ◌≢◌, ◌≤◌, ◌<◌, ℕ, List, [], ◌∷◌, length, None}
+use Rattle.std.specs.Option.{IsSomeAnd}
 use Rattle.std.proofs.Common.{true≢false, sym, ap, ◌∙◌, refl, subst, inl, inr, arith}
 use Rattle.sf_base.proofs.Options.{some-none, some-once}
 use Rattle.sf_base.specs.declared.ids.ResId.{ResId}
@@ -17,33 +18,43 @@ use Rattle.sf_core.specs.Machine.Step.{Event, Does, Finds, Goes, Step, TaskStep}
 use Rattle.sf_core.specs.Program.Syntax.{Command, assign, look_up, mutate, new, dispose, if, while, call, fork, with, Program}
 use Rattle.sf_machine.specs.declared.event.Stepped.{Stepped}
 use Rattle.sf_machine.specs.declared.event.Stepped.TheVariants.{Moved, Absent, Waiting, NoTask, Stale, TooDeep}
-use Rattle.sf_machine.specs.Answers.{Answers, AnswersAreExclusive, CommandRefuses, FindsNone, HasToWait, IsGoing, IsRefused, RefusedEventsDoNotStep, Refuses}
+use Rattle.sf_machine.specs.Answers.{Answers, AnswersAreExclusive, IsGoing, IsRefused, RefusedEventsDoNotStep, Refuses, refusal_in}
+use Rattle.sf_machine.specs.Checked.Plans.{answer_of}
+use Rattle.sf_frame.specs.declared.refusal.Refusal.{Refusal}
+use Rattle.sf_frame.specs.declared.refusal.Refusal.TheVariants.{Absent as absent, Waiting as waiting, Stale as stale, TooDeep as too_deep}
+use Rattle.sf_frame.specs.Refusals.{FindsNone, HasToWait, Refuses as CommandRefuses}
+
+-- the reason that an answer tells
+refusal_of : {P : Refusal → Type 0} (why : Stepped) → IsSomeAnd (refusal_in why) P
+    → (refusal : Refusal) × (why ≡ answer_of refusal) × P refusal
+refusal_of Moved h = absurd h
+refusal_of (Absent v) h = (absent v, refl, h)
+refusal_of (Waiting r) h = (waiting r, refl, h)
+refusal_of NoTask h = absurd h
+refusal_of Stale h = (stale, refl, h)
+refusal_of TooDeep h = (too_deep, refl, h)
 
 -- a cell that is found isn't absent
-moved_finds : (see : Expr → Value) (heap : Heap) (e : Expr) (why : Stepped) (location : ℕ) (cell : Cell)
+moved_finds : (see : Expr → Value) (heap : Heap) (e : Expr) (why : Refusal) (location : ℕ) (cell : Cell)
     → Finds see heap e location cell → FindsNone see heap e why → ⊥
-moved_finds see heap e Moved location cell f h = h
-moved_finds see heap e (Absent v) location cell f h =
+moved_finds see heap e (absent v) location cell f h =
     let none : heap location ≡ None = subst (IsAbsent heap) (sym h.0 ∙ f.is) h.1 in
     some-none cell (sym f.there ∙ none)
-moved_finds see heap e (Waiting r) location cell f h = h
-moved_finds see heap e NoTask location cell f h = h
-moved_finds see heap e Stale location cell f h = h
-moved_finds see heap e TooDeep location cell f h = h
+moved_finds see heap e (waiting r) location cell f h = h
+moved_finds see heap e stale location cell f h = h
+moved_finds see heap e too_deep location cell f h = h
 
 -- a region that is entered is free, and its condition is true
-moved_enters : (r : ResId) (held is_false : Type 0) (why : Stepped) → (held → ⊥) → (is_false → ⊥)
+moved_enters : (r : ResId) (held is_false : Type 0) (why : Refusal) → (held → ⊥) → (is_false → ⊥)
     → HasToWait r held is_false why → ⊥
-moved_enters r held is_false Moved a b h = h
-moved_enters r held is_false (Absent v) a b h = h
-moved_enters r held is_false (Waiting q) a b h = elim h.1 [ inl k ↦ a k | inr k ↦ b k ]
-moved_enters r held is_false NoTask a b h = h
-moved_enters r held is_false Stale a b h = h
-moved_enters r held is_false TooDeep a b h = h
+moved_enters r held is_false (absent v) a b h = h
+moved_enters r held is_false (waiting q) a b h = elim h.1 [ inl k ↦ a k | inr k ↦ b k ]
+moved_enters r held is_false stale a b h = h
+moved_enters r held is_false too_deep a b h = h
 
 -- a command whose event is there doesn't refuse it
 moved_does : (p : Program) (ev : Event) (s t : Common) (f : Fixed) (below : List Frame) (c : Command)
-    (rest : List Item) (u : Task) (why : Stepped) → Does p ev s f below c rest t u → CommandRefuses ev s f c why → ⊥
+    (rest : List Item) (u : Task) (why : Refusal) → Does p ev s f below c rest t u → CommandRefuses ev s f c why → ⊥
 moved_does p ev s t f below (assign place x e) rest u why d h = h
 moved_does p ev s t f below (look_up place x e g) rest u why d h =
     moved_finds (evaluate f.slots s.store) s.heap e why d.0 d.1 d.2 h
@@ -65,7 +76,8 @@ moved_does p ev s t f below (with place r test body) rest u why d h =
 -- so doesn't a task that steps
 moved_goes : (p : Program) (ev : Event) (s t : Common) (n : Next) (u : Task) (why : Stepped) → Goes p ev s n t u
     → Refuses ev s n why → ⊥
-moved_goes p ev s t (does f below c rest) u why g h = moved_does p ev s t f below c rest u why g h
+moved_goes p ev s t (does f below c rest) u why g h =
+    let k = refusal_of why h in moved_does p ev s t f below c rest u k.0 g k.2
 moved_goes p ev s t (leaves f below r rest) u why g h = h
 moved_goes p ev s t (returns f below) u why g h = h
 moved_goes p ev s t (joins frames one two) u why g h = h
@@ -108,37 +120,29 @@ moved_task p ev c d s = record {
 }
 
 -- an expression finds no cell for one reason
-same_finds : (see : Expr → Value) (heap : Heap) (e : Expr) (one other : Stepped) → FindsNone see heap e one
+same_finds : (see : Expr → Value) (heap : Heap) (e : Expr) (one other : Refusal) → FindsNone see heap e one
     → FindsNone see heap e other → one ≡ other
-same_finds see heap e Moved other h k = absurd h
-same_finds see heap e (Absent v) Moved h k = absurd k
-same_finds see heap e (Absent v) (Absent w) h k = ap Absent (sym h.0 ∙ k.0)
-same_finds see heap e (Absent v) (Waiting r) h k = absurd k
-same_finds see heap e (Absent v) NoTask h k = absurd k
-same_finds see heap e (Absent v) Stale h k = absurd k
-same_finds see heap e (Absent v) TooDeep h k = absurd k
-same_finds see heap e (Waiting r) other h k = absurd h
-same_finds see heap e NoTask other h k = absurd h
-same_finds see heap e Stale other h k = absurd h
-same_finds see heap e TooDeep other h k = absurd h
+same_finds see heap e (absent v) (absent w) h k = ap absent (sym h.0 ∙ k.0)
+same_finds see heap e (absent v) (waiting r) h k = absurd k
+same_finds see heap e (absent v) stale h k = absurd k
+same_finds see heap e (absent v) too_deep h k = absurd k
+same_finds see heap e (waiting r) other h k = absurd h
+same_finds see heap e stale other h k = absurd h
+same_finds see heap e too_deep other h k = absurd h
 
 -- a region waits for one reason
-same_waits : (r : ResId) (held is_false : Type 0) (one other : Stepped) → HasToWait r held is_false one
+same_waits : (r : ResId) (held is_false : Type 0) (one other : Refusal) → HasToWait r held is_false one
     → HasToWait r held is_false other → one ≡ other
-same_waits r held is_false Moved other h k = absurd h
-same_waits r held is_false (Absent v) other h k = absurd h
-same_waits r held is_false (Waiting q) Moved h k = absurd k
-same_waits r held is_false (Waiting q) (Absent v) h k = absurd k
-same_waits r held is_false (Waiting q) (Waiting s) h k = ap Waiting (h.0 ∙ sym k.0)
-same_waits r held is_false (Waiting q) NoTask h k = absurd k
-same_waits r held is_false (Waiting q) Stale h k = absurd k
-same_waits r held is_false (Waiting q) TooDeep h k = absurd k
-same_waits r held is_false NoTask other h k = absurd h
-same_waits r held is_false Stale other h k = absurd h
-same_waits r held is_false TooDeep other h k = absurd h
+same_waits r held is_false (absent v) other h k = absurd h
+same_waits r held is_false (waiting q) (absent v) h k = absurd k
+same_waits r held is_false (waiting q) (waiting s) h k = ap waiting (h.0 ∙ sym k.0)
+same_waits r held is_false (waiting q) stale h k = absurd k
+same_waits r held is_false (waiting q) too_deep h k = absurd k
+same_waits r held is_false stale other h k = absurd h
+same_waits r held is_false too_deep other h k = absurd h
 
 -- a command refuses for one reason
-same_command : (ev : Event) (s : Common) (f : Fixed) (c : Command) (one other : Stepped) → CommandRefuses ev s f c one
+same_command : (ev : Event) (s : Common) (f : Fixed) (c : Command) (one other : Refusal) → CommandRefuses ev s f c one
     → CommandRefuses ev s f c other → one ≡ other
 same_command ev s f (assign place x e) one other h k = absurd h
 same_command ev s f (look_up place x e g) one other h k = same_finds (evaluate f.slots s.store) s.heap e one other h k
@@ -154,7 +158,10 @@ same_command ev s f (with place r test body) one other h k = same_waits r (s.hel
 -- so does what comes next
 same_next : (ev : Event) (s : Common) (n : Next) (one other : Stepped) → Refuses ev s n one → Refuses ev s n other
     → one ≡ other
-same_next ev s (does f below c rest) one other h k = same_command ev s f c one other h k
+same_next ev s (does f below c rest) one other h k =
+    let a = refusal_of one h in
+    let b = refusal_of other k in
+    a.1 ∙ ap answer_of (same_command ev s f c a.0 b.0 a.2 b.2) ∙ sym b.1
 same_next ev s (leaves f below r rest) one other h k = absurd h
 same_next ev s (returns f below) one other h k = absurd h
 same_next ev s (joins frames c d) one other h k = absurd h

@@ -38,7 +38,7 @@ mod task;
 
 pub use accessed::Accesses;
 pub use accessing::accesses;
-pub use beginning::begin;
+pub use beginning::{begin, begin_with};
 pub use config::Config;
 pub use event::{Event, Stepped};
 pub use laws::{answers_are_exclusive, refused_events_do_not_step};

@@ -20,7 +20,7 @@ use Rattle.sf_core.proofs.Machine.Progress.{enabled-or_stop}
 use Rattle.sf_foot.specs.Starting.{store_of}
 use Rattle.sf_heap.specs.Cells.{heap_of}
 use Rattle.sf_machine.specs.Accessing.{thing_of}
-use Rattle.sf_machine.specs.Answers.{Answers, CommandRefuses, IsGoing, IsRefused, Refuses}
+use Rattle.sf_machine.specs.Answers.{Answers, IsGoing, IsRefused, Refuses}
 use Rattle.sf_machine.specs.Reached.{IsReached}
 use Rattle.sf_machine.specs.declared.event.Stepped.{Stepped}
 use Rattle.sf_machine.specs.declared.event.Stepped.TheVariants as s
@@ -57,7 +57,7 @@ module _ (p : Program) (ev : Event) (c : Config) where
 
   -- a command that stops refuses
   refuses-command : (f : Fixed) (one : Command)
-      → ((why : Stepped) → CommandRefuses ev c.common f one why → IsRefused ev c why)
+      → ((why : Stepped) → Refuses ev c.common (does f [] one []) why → IsRefused ev c why)
       → CommandMayStop ev.task c.common f one → SomeAnswer
   refuses-command f (assign place x e) k h = absurd h
   refuses-command f (look_up place x e g) k h =
@@ -82,7 +82,7 @@ module _ (p : Program) (ev : Event) (c : Config) where
 
   -- a command that is shut waits
   refuses-shut : (f : Fixed) (one : Command)
-      → ((why : Stepped) → CommandRefuses ev c.common f one why → IsRefused ev c why)
+      → ((why : Stepped) → Refuses ev c.common (does f [] one []) why → IsRefused ev c why)
       → IsShut c.common.held one → SomeAnswer
   refuses-shut f (assign place x e) k h = absurd h
   refuses-shut f (look_up place x e g) k h = absurd h
@@ -123,7 +123,7 @@ module _ (p : Program) (ev : Event) (c : Config) where
 
   makes-command : (f : Fixed) (one : Command)
       → ((location : ℕ) → CommandMakes p ev one (cell location) → (location ≢ 0) × (c.common.heap location ≡ None))
-      ⊎ CommandRefuses ev c.common f one s.Stale
+      ⊎ Refuses ev c.common (does f [] one []) s.Stale
   makes-command f (assign place x e) = inl (λ location m. absurd m)
   makes-command f (look_up place x e g) = inl (λ location m. absurd m)
   makes-command f (mutate place e g w) = inl (λ location m. absurd m)

@@ -10,7 +10,8 @@ use Rattle.sf_frame.specs.Checked.Plans.{CallsSome, HasCallees, Plans}
 use Rattle.sf_frame.specs.Commons.{common_of}
 use Rattle.sf_frame.specs.Frames.{fixed_of}
 use Rattle.sf_frame.specs.Stamps.{event_of}
-use Rattle.sf_frame.proofs.Plans.{ok_map, on_err}
+use Rattle.std.proofs.lemmas.Result.{IfOk-weaker}
+use Rattle.sf_frame.proofs.Plans.{on_err}
 use Rattle.sf_frame.proofs.plan.plan_command.Goals as goal
 
 -- a procedure that the definitions have is there in the code
@@ -45,9 +46,9 @@ plan_call-requires c =
 pub returns-in-Calls-clause-plans : goal.returns-in-Calls-clause-plans
 returns-in-Calls-clause-plans c =
     let k = c.in-Calls.ensures (program_of c.args.p.now) c.requires.field any_cell in
-    ok_map c.plan_call.result c.plan_call.ensures (λ plan plans cell.
-        subst (λ (one : Command). Plans (program_of c.args.p.now) (event_of c.args.event.now cell)
-        (common_of c.args.shared.now) (fixed_of c.args.frame.now) one plan) (sym k.1) (plans cell k.0))
+    IfOk-weaker c.plan_call.result _ _ (λ plan plans cell.
+    subst (λ (one : Command). Plans (program_of c.args.p.now) (event_of c.args.event.now cell)
+    (common_of c.args.shared.now) (fixed_of c.args.frame.now) one plan) (sym k.1) (plans cell k.0)) c.plan_call.ensures
 
 pub returns-in-Calls-clause-memory : goal.returns-in-Calls-clause-memory
 returns-in-Calls-clause-memory c =
@@ -67,9 +68,9 @@ plan_fork-requires c =
 pub returns-in-Forks-clause-plans : goal.returns-in-Forks-clause-plans
 returns-in-Forks-clause-plans c =
     let k = c.in-Forks.ensures (program_of c.args.p.now) c.requires.field any_cell in
-    ok_map c.plan_fork.result c.plan_fork.ensures (λ plan plans cell.
-        subst (λ (one : Command). Plans (program_of c.args.p.now) (event_of c.args.event.now cell)
-        (common_of c.args.shared.now) (fixed_of c.args.frame.now) one plan) (sym k.1) (plans cell k.0))
+    IfOk-weaker c.plan_fork.result _ _ (λ plan plans cell.
+    subst (λ (one : Command). Plans (program_of c.args.p.now) (event_of c.args.event.now cell)
+    (common_of c.args.shared.now) (fixed_of c.args.frame.now) one plan) (sym k.1) (plans cell k.0)) c.plan_fork.ensures
 
 pub returns-in-Forks-clause-memory : goal.returns-in-Forks-clause-memory
 returns-in-Forks-clause-memory c =

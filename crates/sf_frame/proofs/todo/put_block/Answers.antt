@@ -17,5 +17,8 @@ pub returns-in-Some-clause-deep : goal.returns-in-Some-clause-deep
 returns-in-Some-clause-deep c =
     fits_put _ _ c.args.todo.now.items c.push_reserved.new.self.items (Commands c.in-Some.first c.in-Some.rest)
     c.push_reserved.ensures.items c.push_reserved.ensures.capacity c.requires.deep
-    (omega (arith, (room_block _ _ c.args.block.now c.in-Some.rest.now c.in-Some.first.now c.in-Some.ensures.cases.0
-    c.requires.room).1))
+    (omega (
+      arith,
+      (room_block _ _ c.args.block.now c.in-Some.rest.now c.in-Some.first.now c.in-Some.ensures.cases.0
+          c.requires.room).1,
+    ))
