@@ -30,5 +30,6 @@ pub mod Entries
 pub mod Entrance
 pub mod Seen
 pub mod Giving
+pub mod Lending
 pub mod Worked
 pub mod Law

@@ -4,6 +4,7 @@ pub mod Supplied
 pub mod First
 pub mod Given
 pub mod Of
+pub mod Lent
 pub mod Stands
 pub mod Keeps
 pub mod Answers
