@@ -79,26 +79,14 @@ impl<'p> Frame<'p> {
         }
     }
 
-    /// The frame after it went on that way. It wants no memory.
+    /// Goes on that way. It wants no memory.
     #[tactic(auto, using(crate::proofs::Stacks::frame_same))]
-    pub(crate) fn going_on(self, way: Way) -> Frame<'p>
-        ensures { frame_of result ≡ record {
-          fixed = fixed_of self.entry;
-          todo = goes_on way (todo_of self.entry.todo.items);
+    pub(crate) fn go_on(&mut self, way: Way)
+        ensures { frame_of self.new ≡ record {
+          fixed = fixed_of self.old;
+          todo = goes_on way (todo_of self.old.todo.items);
         } }
     {
-        let Frame {
-            procedure,
-            references,
-            room,
-            mut todo,
-        } = self;
-        go_on(&mut todo, way);
-        Frame {
-            procedure,
-            references,
-            room,
-            todo,
-        }
+        go_on(&mut self.todo, way);
     }
 }

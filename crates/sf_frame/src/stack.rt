@@ -1,10 +1,10 @@
 //! The frames of a task.
 
-ghost use Rattle.std.specs.Prelude.{◌≡◌, ◌↔◌, ◌+◌, ◌≤◌, [], ◌∷◌, IsTrue, IfOk, OnOk, vec_len, vec_capacity};
+ghost use Rattle.std.specs.Prelude.{◌≡◌, ◌↔◌, ◌+◌, ◌≤◌, [], ◌∷◌, IsTrue, IfOk, OnErr, OnOk, vec_len, vec_capacity};
 ghost use Rattle.sf_core.specs.Machine.Config.{runs};
 ghost use Rattle.sf_core.specs.Machine.Enabled.{HasEnded};
 ghost use Rattle.sf_frame.specs.Frames.{frame_of, frames_of, stack_of};
-ghost use Rattle.sf_frame.specs.Checked.Frames.{after, frames_left, moved, HasRoom};
+ghost use Rattle.sf_frame.specs.Checked.Frames.{after, frames_left, moved, HasRoom, IsCall};
 
 use crate::frame::{Frame, Way};
 use std::alloc::{AllocError, Global};
@@ -60,6 +60,7 @@ impl<'p> Stack<'p> {
     pub fn reserve(&mut self, change: &Change<'p>) -> Result<(), AllocError>
         ensures same { stack_of self.new ≡ stack_of self.old }
         ensures ok { OnOk result (HasRoom change.now self.new) }
+        ensures memory { OnErr result (IsCall change.now) }
     {
         if let Change::Call(_) = change {
             self.below.reserve(1)?;
@@ -67,15 +68,19 @@ impl<'p> Stack<'p> {
         Ok(())
     }
 
+    /// The innermost frame goes on that way. It wants no memory.
+    pub fn advance(&mut self, way: Way)
+        ensures { stack_of self.new ≡ moved (Change.GoOn way) (stack_of self.old) }
+    {
+        self.frame.go_on(way);
+    }
+
     /// The stack after its innermost frame went on that way. It wants no memory.
-    pub fn advanced(self, way: Way) -> Stack<'p>
+    pub fn advanced(mut self, way: Way) -> Stack<'p>
         ensures { stack_of result ≡ moved (Change.GoOn way) (stack_of self.entry) }
     {
-        let Stack { frame, below } = self;
-        Stack {
-            frame: frame.going_on(way),
-            below,
-        }
+        self.advance(way);
+        self
     }
 
     /// The stack after a change, if a frame is left. It wants no memory.
@@ -92,12 +97,13 @@ impl<'p> Stack<'p> {
 }
 
 /// The stack of a callee above those frames, of which the innermost called it.
-fn called<'p>(frame: Frame<'p>, mut below: Vec<Frame<'p>>, callee: Frame<'p>) -> Stack<'p>
+fn called<'p>(mut frame: Frame<'p>, mut below: Vec<Frame<'p>>, callee: Frame<'p>) -> Stack<'p>
     requires { vec_len below + 1 ≤ vec_capacity below }
     ensures { stack_of result ≡ frame_of callee.entry ∷ after (frame_of frame.entry)
         ∷ frames_of below.entry.items }
 {
-    below.push_reserved(frame.going_on(Way::Past));
+    frame.go_on(Way::Past);
+    below.push_reserved(frame);
     Stack {
         frame: callee,
         below,

@@ -56,6 +56,12 @@ abbrev pub frames_left : Option Stack → List Frame
 frames_left None = []
 frames_left (Some s) = stack_of s
 
+-- the change is a call
+abbrev pub IsCall : Change → Type 0
+IsCall (go_on way) = ⊥
+IsCall (Call callee) = Unit {0}
+IsCall Return = ⊥
+
 -- the stack has room for a change: for one frame more where a callee's comes above
 abbrev pub HasRoom : Change → Stack → Type 0
 HasRoom (go_on way) s = Unit {0}
