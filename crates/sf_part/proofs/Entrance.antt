@@ -50,7 +50,8 @@ on-ok (Ok x) h f = f h
 on-ok (Err e) h f = tt
 
 -- a task that stands at a region runs frames
-pub made-stands : (s : CodeStand) (f : Frame) (below : List Frame) → stand_in s ≡ running (f ∷ below) → Runs s
+pub made-stands : (s : CodeStand) (f : Frame) (below : List Frame)
+    → stand_in s ≡ running (f ∷ below) → Runs s
 made-stands (runs_frames stack) f below e = tt
 made-stands (Waits stack) f below e = absurd (cc)
 made-stands Over f below e = absurd (cc)
@@ -68,7 +69,8 @@ pub record Standing (a : CodePart) (k : Content) : Type 0 where
   pub is_true : IsTrueOf
       (evaluate fixed.slots (together (common_of a.shared).store (content_of k).content.store)) test
 
-pub made-standing : (a : CodePart) (k : Content) → MayEnter (part_of a) (content_of k) → Standing a k
+pub made-standing : (a : CodePart) (k : Content) → MayEnter (part_of a) (content_of k)
+    → Standing a k
 made-standing a k may =
     let (f, test, (frames, stand, guard), so) = may.opens in
     record {
@@ -78,12 +80,15 @@ made-standing a k may =
       body = guard.body;
       rest = guard.rest;
       below = guard.below;
-      stand = stand ∙ ap running (next-shape frames f guard.below (with guard.place k.resource test guard.body)
+      stand = stand
+          ∙ ap running
+          (next-shape frames f guard.below (with guard.place k.resource test guard.body)
           guard.rest guard.is);
       is_true = so;
     }
 
-module _ (p : Program) (formed : IsFormed p) (a b : CodePart) (k : Content) (number : ℕ) (of : IsPartOf p a)
+module _ (p : Program) (formed : IsFormed p) (a b : CodePart) (k : Content) (number : ℕ)
+    (of : IsPartOf p a)
     (content : IsContentIn p k) (may : MayEnter (part_of a) (content_of k))
     (units : numbers a.supply ≡ number ∷ drop 1 (numbers a.supply)) (made : IsEntered number k a b)
     (s : Standing a k) where
@@ -101,7 +106,11 @@ module _ (p : Program) (formed : IsFormed p) (a b : CodePart) (k : Content) (num
 
   -- the part with the content in hand
   abbrev both : Part
-  both = record (part_of a).part { heap = (common_of b.shared).heap; store = (common_of b.shared).store }
+  both = record (part_of a).part {
+    heap = (common_of b.shared).heap;
+    store =
+        (common_of b.shared).store;
+  }
 
   hand : HasInHand (part_of a).part (content_of k).content both
   hand = record {
@@ -128,15 +137,18 @@ module _ (p : Program) (formed : IsFormed p) (a b : CodePart) (k : Content) (num
       ∙ (λ i. λ q. cond (q.0 == k.resource.0) (Some a.task)
       (ap (λ (z : Common). z.held q) (sym (part-common a)) i))
 
-  common-after : part_common (part_of b).part ≡ set_holder k.resource (Some a.task) (part_common both)
+  common-after : part_common (part_of b).part ≡ set_holder k.resource (Some a.task)
+      (part_common both)
   common-after = λ i. record {
     heap = (common_of b.shared).heap;
     store = (common_of b.shared).store;
     held = holders-after i;
   }
 
-  takes : NextTakes (own_event a number) (next (runs frames)) (has (numbers a.supply)) (has (numbers b.supply))
-  takes = subst (λ z. NextTakes (own_event a number) (next (runs frames)) (has z) (has (numbers b.supply)))
+  takes : NextTakes (own_event a number) (next (runs frames)) (has (numbers a.supply))
+      (has (numbers b.supply))
+  takes = subst (λ z. NextTakes (own_event a number) (next (runs frames)) (has z)
+      (has (numbers b.supply)))
       (sym (units ∙ ap (λ z. number ∷ z) (sym made.supply)))
       (numbers b.supply, (refl, refl), refl)
 
@@ -154,7 +166,8 @@ module _ (p : Program) (formed : IsFormed p) (a b : CodePart) (k : Content) (num
       from_is = s.stand;
       to_is = now;
       steps = (free, holds-there, common-after, refl);
-      slots = enter-slots p formed (common_of a.shared).store (common_of b.shared).store k content made.store
+      slots = enter-slots p formed (common_of a.shared).store (common_of b.shared).store k content
+          made.store
           s.fixed s.place s.test s.body s.rest s.below frames_are;
     };
     spends = takes;
@@ -172,27 +185,32 @@ module _ (p : Program) (formed : IsFormed p) (a b : CodePart) (k : Content) (num
       let before : regions p q frames ≡ cond ((part_of a).part.holds q) 1 0 =
       sym (ap (λ z. regions p q (frames_in z)) s.stand) ∙ of.is.inside q in
       let one : exits q (items s.body ++ (leave k.resource ∷ s.rest))
-      ≡ cond (k.resource.0 == q.0) 1 0 + exits q s.rest = items-exits q s.body (leave k.resource ∷ s.rest) in
+      ≡ cond (k.resource.0 == q.0) 1 0 + exits q s.rest =
+      items-exits q s.body (leave k.resource ∷ s.rest) in
       let held = ap (λ (f : ResId → Option Path). one_if (is_some (f q))) made.held in
       go (q.0 == k.resource.0) refl (k.resource.0 == q.0) refl before one held
     where
       go : (x : Bool) → q.0 == k.resource.0 ≡ x → (y : Bool) → k.resource.0 == q.0 ≡ y
           → regions p q frames ≡ cond ((part_of a).part.holds q) 1 0
-          → exits q (items s.body ++ (leave k.resource ∷ s.rest)) ≡ cond (k.resource.0 == q.0) 1 0 + exits q s.rest
+          → exits q (items s.body ++ (leave k.resource ∷ s.rest)) ≡ cond (k.resource.0 == q.0) 1 0 +
+          exits q s.rest
           → one_if ((part_of b).part.holds q)
-          ≡ one_if (is_some (cond (q.0 == k.resource.0) (Some a.task) ((common_of a.shared).held q)))
+          ≡ one_if (is_some
+          (cond (q.0 == k.resource.0) (Some a.task) ((common_of a.shared).held q)))
           → regions p q kept ≡ cond ((part_of b).part.holds q) 1 0
       go true e true i before one held =
           let same : q ≡ k.resource = resource-same q k.resource e in
           let none : one_if ((part_of a).part.holds q) ≡ 0 =
           ap (λ z. one_if ((part_of a).part.holds z)) same ∙ ap one_if may.outside in
           let first : one_if (k.resource.0 == q.0) ≡ 1 = ap one_if i in
-          let then_ : one_if (is_some (cond (q.0 == k.resource.0) (Some a.task) ((common_of a.shared).held q)))
+          let then_ : one_if
+          (is_some (cond (q.0 == k.resource.0) (Some a.task) ((common_of a.shared).held q)))
           ≡ 1 = ap (λ z. one_if (is_some (cond z (Some a.task) ((common_of a.shared).held q)))) e in
           omega arith
       go false e false i before one held =
           let first : one_if (k.resource.0 == q.0) ≡ 0 = ap one_if i in
-          let then_ : one_if (is_some (cond (q.0 == k.resource.0) (Some a.task) ((common_of a.shared).held q)))
+          let then_ : one_if
+          (is_some (cond (q.0 == k.resource.0) (Some a.task) ((common_of a.shared).held q)))
           ≡ one_if ((part_of a).part.holds q) =
           ap (λ z. one_if (is_some (cond z (Some a.task) ((common_of a.shared).held q)))) e in
           omega arith
@@ -204,7 +222,8 @@ module _ (p : Program) (formed : IsFormed p) (a b : CodePart) (k : Content) (num
   made-inside wide = record {
     is = record {
       stands = subst (StandIsOf p (common_of b.shared).store) (sym now)
-          (enter-frames p formed (common_of a.shared).store (common_of b.shared).store k content made.store
+          (enter-frames p formed (common_of a.shared).store (common_of b.shared).store k content
+          made.store
           s.fixed s.place s.test s.body s.rest s.below frames_are);
       inside = λ q. ap (λ z. regions p q (frames_in z)) now ∙ inside-after q;
     };
@@ -213,10 +232,13 @@ module _ (p : Program) (formed : IsFormed p) (a b : CodePart) (k : Content) (num
   }
 
 -- whether it entered or not
-pub enter-of : {T E : Type 0} (p : Program) (formed : IsFormed p) (a b : CodePart) (k : Content) → IsPartOf p a
+pub enter-of : {T E : Type 0} (p : Program) (formed : IsFormed p) (a b : CodePart) (k : Content)
+    → IsPartOf p a
     → IsContentIn p k → MayEnter (part_of a) (content_of k) → (r : Result T E)
-    → OnOk r ((number : ℕ) × (numbers a.supply ≡ number ∷ drop 1 (numbers a.supply)) × IsEntered number k a b)
-    → OnErr r (part_of b ≡ part_of a) → b.blank ≡ a.blank → HasWidth (length p.fields) b.shared.heap → IsPartOf p b
+    → OnOk r ((number : ℕ) × (numbers a.supply ≡ number ∷ drop 1 (numbers a.supply))
+    × IsEntered number k a b)
+    → OnErr r (part_of b ≡ part_of a) → b.blank ≡ a.blank → HasWidth (length p.fields) b.shared.heap
+    → IsPartOf p b
 enter-of p formed a b k of content may (Ok x) h e blank wide =
     made-inside p formed a b k h.0 of content may h.1 h.2 (made-standing a k may) wide
 enter-of p formed a b k of content may (Err x) h e blank wide = record {

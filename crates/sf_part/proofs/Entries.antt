@@ -1,4 +1,5 @@
--- The entry of a region with the content of its resource in hand, and that it leaves the part the program's.
+-- The entry of a region with the content of its resource in hand, and that it leaves the part the
+-- program's.
 -- Names: `enter-LAW`.
 use Rattle.std.specs.Prelude.{◌≡◌, ◌⊎◌, ◌==◌, ◌&&◌, ◌<◌, ℕ, true, ltb, List, [], ◌∷◌, ◌++◌, length, Option, Some, None, Contains, is_some}
 use Rattle.std.specs.List.{slice_get}
@@ -31,26 +32,32 @@ use Rattle.sf_part.proofs.Owned.{Grows, frames-grow, grows-cond, variable-near}
 use Rattle.sf_part.proofs.Sites.{inside-items, sites-enter, sites-first}
 
 -- the frames that do that next
-pub next-shape : (frames : List Frame) (f : Fixed) (below : List Frame) (c : Command) (rest : List Item)
+pub next-shape : (frames : List Frame) (f : Fixed) (below : List Frame) (c : Command)
+    (rest : List Item)
     → next (runs frames) ≡ does f below c rest → frames ≡ frames_with f (command c ∷ rest) below
 next-shape [] f below c rest e = absurd (cc)
 next-shape (g ∷ others) f below c rest e = go g.todo refl e
   where
     go : (todo : List Item) → g.todo ≡ todo → frame_next g.fixed others g.todo ≡ does f below c rest
         → g ∷ others ≡ frames_with f (command c ∷ rest) below
-    go [] i h = absurd (let k : returns g.fixed others ≡ does f below c rest = sym (ap (frame_next g.fixed others) i) ∙ h in cc)
+    go [] i h = absurd (let k : returns g.fixed others ≡ does f below c rest =
+        sym (ap (frame_next g.fixed others) i) ∙ h in cc)
     go (leave r ∷ todo) i h =
-        absurd (let k : leaves g.fixed others r todo ≡ does f below c rest = sym (ap (frame_next g.fixed others) i) ∙ h in cc)
+        absurd (let k : leaves g.fixed others r todo ≡ does f below c rest =
+        sym (ap (frame_next g.fixed others) i) ∙ h in cc)
     go (command d ∷ todo) i h =
-        let k : does g.fixed others d todo ≡ does f below c rest = sym (ap (frame_next g.fixed others) i) ∙ h in
+        let k : does g.fixed others d todo ≡ does f below c rest =
+        sym (ap (frame_next g.fixed others) i) ∙ h in
         let fixed : g.fixed ≡ f = cc in
         let frames : others ≡ below = cc in
         let same : d ≡ c = cc in
         let after : todo ≡ rest = cc in
-        (λ j. record { fixed = fixed j; todo = (i ∙ (λ m. command (same m) ∷ after m)) j } ∷ frames j)
+        (λ j. record { fixed = fixed j; todo = (i ∙ (λ m. command (same m) ∷ after m)) j }
+        ∷ frames j)
 
 -- with the content's slots beside it, the part has those of the region's resource
-module _ (p : Program) (formed : IsFormed p) (before after : Store) (k : Content) (content : IsContentIn p k)
+module _ (p : Program) (formed : IsFormed p) (before after : Store) (k : Content)
+    (content : IsContentIn p k)
     (slots : Splits after before (content_of k).content.store) where
   grows : Grows before after
   grows slot h = there (before slot) refl
@@ -78,8 +85,10 @@ module _ (p : Program) (formed : IsFormed p) (before after : Store) (k : Content
       there None e = absurd (true≢false (sym here ∙ ap is_some e))
       there (Some v) e = ap is_some (splits-has_right (shared k.resource i) v slots e)
 
-  module _ (f : Fixed) (place : Place) (test : Test Expr) (body : Block) (rest : List Item) (below : List Frame)
-      (of : FramesAreOf p before (frames_with f (command (with place k.resource test body) ∷ rest) below)) where
+  module _ (f : Fixed) (place : Place) (test : Test Expr) (body : Block) (rest : List Item)
+      (below : List Frame)
+      (of : FramesAreOf p before (frames_with f (command (with place k.resource test body) ∷ rest)
+      below)) where
     abbrev now : Frame
     now = record { fixed = f; todo = command (with place k.resource test body) ∷ rest }
 
@@ -94,7 +103,8 @@ module _ (p : Program) (formed : IsFormed p) (before after : Store) (k : Content
     -- a variable that the condition evaluates is there
     occurs-there : (x : Occurrence) → Contains (occurrences_at (with place k.resource test body)) x
         → is_some (after (f.slots x.var)) ≡ true
-    occurs-there x h = elim (variable-near p formed f (with place k.resource test body) rest (of.0).procedure
+    occurs-there x h =
+        elim (variable-near p formed f (with place k.resource test body) rest (of.0).procedure
         (of.0).there here x h) [
           | inl v ↦ grows (f.slots x.var) ((of.0).variables x.var v)
           | inr n ↦ near n
@@ -108,7 +118,8 @@ module _ (p : Program) (formed : IsFormed p) (before after : Store) (k : Content
             let same : k.resource ≡ r = contains-single k.resource r entered in
             let few : i < variable_count (slice_get p.resources k.resource.0) =
             subst (λ (z : ResId). i < variable_count (slice_get p.resources z.0)) (sym same) l in
-            ap (λ z. is_some (after z)) (ap f.slots is ∙ (of.0).names r i ∙ ap (λ z. shared z i) (sym same))
+            ap (λ z. is_some (after z)) (ap f.slots is ∙ (of.0).names r i
+            ∙ ap (λ z. shared z i) (sym same))
             ∙ of_resource i few
 
     -- so is each slot that is read or written next
@@ -127,7 +138,8 @@ module _ (p : Program) (formed : IsFormed p) (before after : Store) (k : Content
         value (Some v) h = (v, refl)
 
     -- the variables of the frame inside of the region are there
-    variables : (x : Var) → IsVariable p then_ (of.0).procedure x → is_some (after (f.slots x)) ≡ true
+    variables : (x : Var) → IsVariable p then_ (of.0).procedure x
+        → is_some (after (f.slots x)) ≡ true
     variables (Own n) v = grows (f.slots (Own n)) ((of.0).variables (Own n) v)
     variables (Shared r i) v = elim v.1 [
       | inl free ↦ grows (f.slots (Shared r i)) ((of.0).variables (Shared r i) (v.0, inl free))
@@ -136,9 +148,14 @@ module _ (p : Program) (formed : IsFormed p) (before after : Store) (k : Content
             (subst (λ z. Contains z r) (inside-items body (leave k.resource ∷ rest)) m)) [
               | inl e ↦
                   let few : i < variable_count (slice_get p.resources k.resource.0) =
-                  subst (λ (z : ResId). i < variable_count (slice_get p.resources z.0)) (sym e) v.0 in
-                  ap (λ z. is_some (after z)) ((of.0).names r i ∙ ap (λ z. shared z i) (sym e)) ∙ of_resource i few
-              | inr n ↦ grows (f.slots (Shared r i)) ((of.0).variables (Shared r i) (v.0, inr (inl n)))
+                  subst (λ (z : ResId). i < variable_count (slice_get p.resources z.0)) (sym e)
+                  v.0 in
+                  ap (λ z. is_some (after z)) ((of.0).names r i ∙ ap (λ z. shared z i) (sym e))
+                  ∙ of_resource i few
+              | inr n ↦ grows (f.slots (Shared r i)) ((of.0).variables (Shared r i) (
+                v.0,
+                inr (inl n),
+              ))
             ]
         | inr m ↦ grows (f.slots (Shared r i)) ((of.0).variables (Shared r i) (v.0, inr (inr m)))
       ]

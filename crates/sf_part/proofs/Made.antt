@@ -50,63 +50,70 @@ made-runs p Over frames e h =
     let none : frames ≡ [] = cc in
     absurd (subst (λ (z : List Frame). IsPrivate p (next (runs z))) none h)
 
-module _ (p : Program) (a b : Part) (number : ℕ) (effect : Effect) (change : Change) (frames : List Frame)
-    (stand : stand_in a.stand ≡ running frames) (acts : ActsLocally p a number effect change frames) where
-  -- the number is the next unit
-  pub made-next : numbers a.supply ≡ number ∷ drop 1 (numbers a.supply)
-  made-next = takes-one (own_event a number) (next (runs frames)) (numbers a.supply)
-      (drop 1 (numbers a.supply)) acts.takes
+module _ (p : Program) (a b : Part) (number : ℕ) (effect : Effect) (change : Change)
+    (frames : List Frame)
+    (stand : stand_in a.stand ≡ running frames) (acts : ActsLocally p a number effect change frames)
+  where
+    -- the number is the next unit
+    pub made-next : numbers a.supply ≡ number ∷ drop 1 (numbers a.supply)
+    made-next = takes-one (own_event a number) (next (runs frames)) (numbers a.supply)
+        (drop 1 (numbers a.supply)) acts.takes
 
-  module _ (made : IsPerformed number effect change a b) where
-    now : stand_in b.stand ≡ running (moved change frames)
-    now = made.stand ∙ ap (λ z. running (moved change (frames_in z))) stand
+    module _ (made : IsPerformed number effect change a b) where
+      now : stand_in b.stand ≡ running (moved change frames)
+      now = made.stand ∙ ap (λ z. running (moved change (frames_in z))) stand
 
-    before : common_of a.shared ≡ part_common (part_of a).part
-    before = sym (part-common a)
+      before : common_of a.shared ≡ part_common (part_of a).part
+      before = sym (part-common a)
 
-    after : acted a number effect ≡ part_common (part_of b).part
-    after = sym (part-common b ∙ made.common)
+      after : acted a number effect ≡ part_common (part_of b).part
+      after = sym (part-common b ∙ made.common)
 
-    -- the event is private
-    pub made-private : Private p (own_event a number) (part_of a) (part_of b)
-    made-private = record {
-      frames = frames;
-      kept = moved change frames;
-      private = acts.private;
-      acts = record {
-        own = refl;
-        task = made.task;
-        from_is = stand;
-        to_is = now;
-        steps = subst (λ z. TaskStep p (own_event a number) (part_common (part_of a).part) (runs frames) z
-            (runs (moved change frames))) after
-            (subst (λ z. TaskStep p (own_event a number) z (runs frames) (acted a number effect)
-            (runs (moved change frames))) before acts.steps);
-        slots = acts.slots;
-      };
-      spends = subst (λ z. NextTakes (own_event a number) (next (runs frames)) (has (numbers a.supply)) (has z))
-          (sym made.supply) acts.takes;
-      notes = record {
-        keeps = made.keeps;
-        given = made.given;
-        clock_is = let c = made.clock in omega arith;
-        log_is = made.log;
-      };
-    }
+      -- the event is private
+      pub made-private : Private p (own_event a number) (part_of a) (part_of b)
+      made-private = record {
+        frames = frames;
+        kept = moved change frames;
+        private = acts.private;
+        acts = record {
+          own = refl;
+          task = made.task;
+          from_is = stand;
+          to_is = now;
+          steps = subst (λ z. TaskStep p (own_event a number) (part_common (part_of a).part)
+              (runs frames) z
+              (runs (moved change frames))) after
+              (subst (λ z. TaskStep p (own_event a number) z (runs frames) (acted a number effect)
+              (runs (moved change frames))) before acts.steps);
+          slots = acts.slots;
+        };
+        spends = subst (λ z. NextTakes (own_event a number) (next (runs frames))
+            (has (numbers a.supply)) (has z))
+            (sym made.supply) acts.takes;
+        notes = record {
+          keeps = made.keeps;
+          given = made.given;
+          clock_is = let c = made.clock in omega arith;
+          log_is = made.log;
+        };
+      }
 
-    -- and the part is still the program's
-    pub made-of : IsPartOf p a
-        → ((count : ℕ) → length a.blank ≡ count → HasWidth count a.shared.heap → HasWidth count b.shared.heap)
-        → IsPartOf p b
-    made-of of width = record {
-      is = record {
-        stands = subst (StandIsOf p (common_of b.shared).store) (sym now)
-            (subst (λ (z : Common). FramesAreOf p z.store (moved change frames)) (sym made.common) acts.of);
-        inside = λ r. ap (λ z. regions p r (frames_in z)) now ∙ acts.regions r
-            ∙ sym (ap (λ z. regions p r (frames_in z)) stand) ∙ of.is.inside r
-            ∙ ap (λ (f : ResId → Option Path). cond (is_some (f r)) 1 0)
-            (sym (ap (λ (z : Common). z.held) made.common ∙ (acts.own).held));
-      };
-      wide = width (length p.fields) (ap length of.blank ∙ length-replicate (length p.fields) nil) of.wide;
-      blank = made.blank ∙ of.blank;
-    }
+      -- and the part is still the program's
+      pub made-of : IsPartOf p a
+          → ((count : ℕ) → length a.blank ≡ count → HasWidth count a.shared.heap
+          → HasWidth count b.shared.heap)
+          → IsPartOf p b
+      made-of of width = record {
+        is = record {
+          stands = subst (StandIsOf p (common_of b.shared).store) (sym now)
+              (subst (λ (z : Common). FramesAreOf p z.store (moved change frames)) (sym made.common)
+              acts.of);
+          inside = λ r. ap (λ z. regions p r (frames_in z)) now ∙ acts.regions r
+              ∙ sym (ap (λ z. regions p r (frames_in z)) stand) ∙ of.is.inside r
+              ∙ ap (λ (f : ResId → Option Path). cond (is_some (f r)) 1 0)
+              (sym (ap (λ (z : Common). z.held) made.common ∙ (acts.own).held));
+        };
+        wide = width (length p.fields) (ap length of.blank ∙ length-replicate (length p.fields) nil)
+            of.wide;
+        blank = made.blank ∙ of.blank;
+      }

@@ -32,14 +32,23 @@ pub record OccursIn (slots : Var → Slot) (xs : List Occurrence) (slot : Slot) 
 
 occurs-left : (slots : Var → Slot) (xs ys : List Occurrence) (slot : Slot) → OccursIn slots xs slot
     → OccursIn slots (xs ++ ys) slot
-occurs-left slots xs ys slot o = record { x = o.x; here = Contains-append_left xs ys o.x o.here; is = o.is }
+occurs-left slots xs ys slot o = record {
+  x = o.x;
+  here = Contains-append_left xs ys o.x o.here;
+  is = o.is;
+}
 
 occurs-right : (slots : Var → Slot) (xs ys : List Occurrence) (slot : Slot) → OccursIn slots ys slot
     → OccursIn slots (xs ++ ys) slot
-occurs-right slots xs ys slot o = record { x = o.x; here = Contains-append_right xs ys o.x o.here; is = o.is }
+occurs-right slots xs ys slot o = record {
+  x = o.x;
+  here = Contains-append_right xs ys o.x o.here;
+  is = o.is;
+}
 
 module _ (slots : Var → Slot) (store : Store) (slot : Slot) where
-  expr-occurs : (e : Expr) → ReadsExpr slots e (variable slot) → OccursIn slots (expr_occurrences e) slot
+  expr-occurs : (e : Expr) → ReadsExpr slots e (variable slot)
+      → OccursIn slots (expr_occurrences e) slot
   expr-occurs (Variable x) r = record { x = x; here = in-first x []; is = cc }
   expr-occurs Nil r = absurd r
   expr-occurs (Int i) r = absurd r
@@ -60,13 +69,17 @@ module _ (slots : Var → Slot) (store : Store) (slot : Slot) where
   all-occurs : (es : List Expr) → ReadsAll slots es (variable slot)
       → OccursIn slots (flat_map expr_occurrences es) slot
   all-occurs [] r = absurd r
-  all-occurs (e ∷ es) r = subst (λ z. OccursIn slots z slot) (sym (flat_map-cons expr_occurrences e es))
+  all-occurs (e ∷ es) r =
+      subst (λ z. OccursIn slots z slot) (sym (flat_map-cons expr_occurrences e es))
       (elim r [
-        | inl i ↦ occurs-left slots (expr_occurrences e) (flat_map expr_occurrences es) slot (expr-occurs e i)
-        | inr i ↦ occurs-right slots (expr_occurrences e) (flat_map expr_occurrences es) slot (all-occurs es i)
+        | inl i ↦ occurs-left slots (expr_occurrences e) (flat_map expr_occurrences es) slot
+            (expr-occurs e i)
+        | inr i ↦ occurs-right slots (expr_occurrences e) (flat_map expr_occurrences es) slot
+            (all-occurs es i)
       ])
 
-  call-occurs : (c : Call) → ReadsAll slots c.values (variable slot) → OccursIn slots (call_occurrences c) slot
+  call-occurs : (c : Call) → ReadsAll slots c.values (variable slot)
+      → OccursIn slots (call_occurrences c) slot
   call-occurs c r = occurs-right slots c.references (flat_map expr_occurrences c.values) slot
       (all-occurs c.values r)
 
@@ -80,17 +93,21 @@ module _ (slots : Var → Slot) (store : Store) (slot : Slot) where
       → OccursIn slots (x ∷ xs) slot
   set-occurs x xs e = record { x = x; here = in-first x xs; is = cc }
 
-  after-set : (x : Occurrence) (xs : List Occurrence) → OccursIn slots xs slot → OccursIn slots (x ∷ xs) slot
+  after-set : (x : Occurrence) (xs : List Occurrence) → OccursIn slots xs slot
+      → OccursIn slots (x ∷ xs) slot
   after-set x xs o = occurs-right slots (x ∷ []) xs slot o
 
   -- in the command itself
-  in-head : (c : Command) → OccursIn slots (head_occurrences c) slot → OccursIn slots (occurrences_at c) slot
-  in-head c o = occurs-left slots (head_occurrences c) (flat_map call_occurrences (head_calls c)) slot o
+  in-head : (c : Command) → OccursIn slots (head_occurrences c) slot
+      → OccursIn slots (occurrences_at c) slot
+  in-head c o = occurs-left slots (head_occurrences c) (flat_map call_occurrences (head_calls c))
+      slot o
 
   -- in its calls
   in-calls : (c : Command) → OccursIn slots (flat_map call_occurrences (head_calls c)) slot
       → OccursIn slots (occurrences_at c) slot
-  in-calls c o = occurs-right slots (head_occurrences c) (flat_map call_occurrences (head_calls c)) slot o
+  in-calls c o = occurs-right slots (head_occurrences c) (flat_map call_occurrences (head_calls c))
+      slot o
 
   one-call : (c : Call) (ds : List Call) → OccursIn slots (call_occurrences c) slot
       → OccursIn slots (flat_map call_occurrences (c ∷ ds)) slot
@@ -105,7 +122,8 @@ module _ (slots : Var → Slot) (store : Store) (slot : Slot) where
   -- what the event of a command reads
   pub reads-occur : (c : Command) → CommandReads slots store c (variable slot)
       → OccursIn slots (occurrences_at c) slot
-  reads-occur (assign q x e) r = in-head (assign q x e) (after-set x (expr_occurrences e) (expr-occurs e r))
+  reads-occur (assign q x e) r =
+      in-head (assign q x e) (after-set x (expr_occurrences e) (expr-occurs e r))
   reads-occur (look_up q x e g) r = elim r [
     | inl i ↦ in-head (look_up q x e g) (after-set x (expr_occurrences e) (expr-occurs e i))
     | inr i ↦ absurd (no-cell _ i)

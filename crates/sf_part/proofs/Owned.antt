@@ -1,6 +1,8 @@
--- The frames of a part that is of a program: what occurs next is there, and a private event leaves the
+-- The frames of a part that is of a program: what occurs next is there, and a private event leaves
+-- the
 -- frames the program's.
--- Names: `variable-LAW` of the variables of a frame, `frame-LAW` and `frames-LAW` of frames, `goes-LAW` of
+-- Names: `variable-LAW` of the variables of a frame, `frame-LAW` and `frames-LAW` of frames,
+-- `goes-LAW` of
 -- an event.
 use Rattle.std.specs.Prelude.{◌≡◌, ◌⊎◌, ◌==◌, ◌+◌, ◌-◌, ◌<◌, ◌&&◌, ℕ, zero, suc, Bool, true, false, cond, ltb, List, [], ◌∷◌, ◌++◌, length, Option, Some, None, Contains, is_some}
 use Rattle.std.proofs.Common.{true≢false, sym, ap, ◌∙◌, refl, subst, inl, inr, arith}
@@ -40,7 +42,8 @@ abbrev pub Grows : (before after : Store) → Type 0
 Grows before after = (slot : Slot) → is_some (before slot) ≡ true → is_some (after slot) ≡ true
 
 -- A command of a frame's procedure
-module _ (p : Program) (formed : IsFormed p) (f : Fixed) (c : Command) (rest : List Item) (g : Procedure)
+module _ (p : Program) (formed : IsFormed p) (f : Fixed) (c : Command) (rest : List Item)
+    (g : Procedure)
     (there : procedure_at p f.procedure ≡ Some g)
     (here : Contains (sites [] g.body) (record { entered = inside rest; command = c })) where
   -- the frame
@@ -54,12 +57,14 @@ module _ (p : Program) (formed : IsFormed p) (f : Fixed) (c : Command) (rest : L
 
   -- so what occurs in it may be read
   in-body : (x : Occurrence) → Contains (occurrences_at c) x → IsInBody p g x.var
-  in-body x h = elim (Contains-append_cases (head_occurrences c) (flat_map call_occurrences (head_calls c)) x h) [
-    | inl k ↦ head-within p g c command-within x k
-    | inr k ↦
-        let d = contains-flat_map_from call_occurrences (head_calls c) x k in
-        call-within p g d.0 (calls-within p g c command-within d.0 d.1) x d.2
-  ]
+  in-body x h =
+      elim (Contains-append_cases (head_occurrences c) (flat_map call_occurrences (head_calls c)) x
+      h) [
+        | inl k ↦ head-within p g c command-within x k
+        | inr k ↦
+            let d = contains-flat_map_from call_occurrences (head_calls c) x k in
+            call-within p g d.0 (calls-within p g c command-within d.0 d.1) x d.2
+      ]
 
   -- a variable that occurs in it, which enters no region, is one of the frame's
   pub variable-here : head_regions c ≡ [] → (x : Occurrence) → Contains (occurrences_at c) x
@@ -93,7 +98,8 @@ module _ (p : Program) (formed : IsFormed p) (f : Fixed) (c : Command) (rest : L
 
   -- or it is one of the resource whose region it enters
   pub variable-near : (x : Occurrence) → Contains (occurrences_at c) x
-      → IsVariable p now g x.var ⊎ ((r : ResId) × (i : ℕ) × (x.var ≡ Shared r i) × Contains (head_regions c) r
+      → IsVariable p now g x.var ⊎ ((r : ResId) × (i : ℕ) × (x.var ≡ Shared r i)
+      × Contains (head_regions c) r
       × (i < variable_count (slice_get p.resources r.0)))
   variable-near x h = go x.var refl (in-body x h)
     where
@@ -151,7 +157,8 @@ pub grows-cond : (b : Bool) (x y : Option Value) → (is_some x ≡ true → is_
 grows-cond true x y g h = h
 grows-cond false x y g h = g h
 
-pub frame-grows : (p : Program) (s t : Store) (f : Frame) → Grows s t → FrameIsOf p s f → FrameIsOf p t f
+pub frame-grows : (p : Program) (s t : Store) (f : Frame) → Grows s t → FrameIsOf p s f
+    → FrameIsOf p t f
 frame-grows p s t f g h = record {
   procedure = h.procedure;
   there = h.there;
@@ -179,7 +186,8 @@ grows-set slot v s other h = go (same_slot other slot)
     go false = h
 
 -- A frame that goes on with other things to do
-goes-frame : (p : Program) (s t : Store) (f : Fixed) (old todo : List Item) → Grows s t → StandIn todo old
+goes-frame : (p : Program) (s t : Store) (f : Fixed) (old todo : List Item) → Grows s t
+    → StandIn todo old
     → inside todo ≡ inside old → FrameIsOf p s (record { fixed = f; todo = old })
     → FrameIsOf p t (record { fixed = f; todo = todo })
 goes-frame p s t f old todo g within same h = record {
@@ -196,9 +204,11 @@ goes-frame p s t f old todo g within same h = record {
     back (Own n) v = v
     back (Shared r i) v =
         subst (λ z. (i < variable_count (slice_get p.resources r.0))
-        × (Free p f.procedure (Shared r i) ⊎ (Contains z r ⊎ (sets_up p f.procedure ≡ true)))) same v
+        × (Free p f.procedure (Shared r i) ⊎ (Contains z r ⊎ (sets_up p f.procedure ≡ true)))) same
+        v
 
--- Goes: what a private event makes of the frames, in order in the program and inside of the same regions
+-- Goes: what a private event makes of the frames, in order in the program and inside of the same
+-- regions
 pub record Goes (p : Program) (s : Common) (old : List Frame) (t : Common) (u : Task) : Type 0 where
   pub frames : List Frame
   pub is : u ≡ runs frames
@@ -206,12 +216,15 @@ pub record Goes (p : Program) (s : Common) (old : List Frame) (t : Common) (u : 
   pub regions : (r : ResId) → regions p r frames ≡ regions p r old
   pub held : t.held ≡ s.held
 
-module _ (p : Program) (s : Common) (f : Fixed) (below : List Frame) (c : Command) (rest : List Item)
+module _ (p : Program) (s : Common) (f : Fixed) (below : List Frame) (c : Command)
+    (rest : List Item)
     (t : Common) (u : Task)
     (of : FramesAreOf p s.store (record { fixed = f; todo = command c ∷ rest } ∷ below)) where
   -- with what comes after the command, or a block before it
-  goes-on : (todo : List Item) → u ≡ task_with f todo below → Grows s.store t.store → t.held ≡ s.held
-      → StandIn todo (command c ∷ rest) → inside todo ≡ inside rest → ((r : ResId) → exits r todo ≡ exits r rest)
+  goes-on : (todo : List Item) → u ≡ task_with f todo below → Grows s.store t.store
+      → t.held ≡ s.held
+      → StandIn todo (command c ∷ rest) → inside todo ≡ inside rest
+      → ((r : ResId) → exits r todo ≡ exits r rest)
       → Goes p s (record { fixed = f; todo = command c ∷ rest } ∷ below) t u
   goes-on todo is g held within same same_exits = record {
     frames = record { fixed = f; todo = todo } ∷ below;
@@ -227,8 +240,10 @@ module _ (p : Program) (s : Common) (f : Fixed) (below : List Frame) (c : Comman
 
   -- a variable gets a value
   goes-set : (slot : Slot) (v : Value) → t.store ≡ (set_slot slot v s).store → t.held ≡ s.held
-      → u ≡ task_with f rest below → Goes p s (record { fixed = f; todo = command c ∷ rest } ∷ below) t u
-  goes-set slot v e held is = goes-on rest is (subst (Grows s.store) (sym e) (grows-set slot v s.store)) held
+      → u ≡ task_with f rest below
+      → Goes p s (record { fixed = f; todo = command c ∷ rest } ∷ below) t u
+  goes-set slot v e held is =
+      goes-on rest is (subst (Grows s.store) (sym e) (grows-set slot v s.store)) held
       (sites-rest c rest) refl (λ r. refl)
 
   -- the variables stay
@@ -248,7 +263,8 @@ own-there caller store room [] n refs opens l =
     (in_room-own room.event room.first room.count n (omega (arith, l)))
 own-there caller store room (x ∷ xs) zero refs opens l = refs x (in-first x xs)
 own-there caller store room (x ∷ xs) (suc n) refs opens l =
-    own-there caller store room xs n (λ y h. refs y (contains-rest x xs y h)) opens (omega (arith, l))
+    own-there caller store room xs n (λ y h. refs y (contains-rest x xs y h)) opens
+    (omega (arith, l))
 
 -- a room that comes up is there, and so is what was there before
 opened-there : (room : Room) (v : ℕ → Value) (s : Common) (slot : Slot) → in_room room slot ≡ true
@@ -280,15 +296,18 @@ opened-without room v s none slot h = go (in_room room slot) refl
 
 -- a slot of a room of that number is one of its slots
 room-clear : (room : Room) (n : ℕ) (store : Store) → room.event ≡ n
-    → ((i : ℕ) → store (own n i) ≡ None) → (slot : Slot) → in_room room slot ≡ true → store slot ≡ None
+    → ((i : ℕ) → store (own n i) ≡ None) → (slot : Slot) → in_room room slot ≡ true
+    → store slot ≡ None
 room-clear room n store e none (shared r i) h = absurd (true≢false (sym h))
 room-clear room n store e none (own m i) h =
     let same : m ≡ room.event = at-same room.event m (and-left (m == room.event) _ h) in
     ap (λ z. store (own z i)) (same ∙ e) ∙ none i
 
-module _ (p : Program) (formed : IsFormed p) (s : Common) (f : Fixed) (below : List Frame) (rest : List Item)
+module _ (p : Program) (formed : IsFormed p) (s : Common) (f : Fixed) (below : List Frame)
+    (rest : List Item)
     (n : ℕ) (fresh : (i : ℕ) → s.store (own n i) ≡ None)
-    (of : FramesAreOf p s.store (record { fixed = f; todo = rest } ∷ below)) (c : Command) (d : Call)
+    (of : FramesAreOf p s.store (record { fixed = f; todo = rest } ∷ below)) (c : Command)
+    (d : Call)
     (h : Procedure) (none : head_regions c ≡ []) (call : Contains (head_calls c) d)
     (caller : FrameIsOf p s.store (record { fixed = f; todo = command c ∷ rest }))
     (there : procedure_at p d.callee ≡ Some h) where
@@ -351,20 +370,25 @@ module _ (p : Program) (formed : IsFormed p) (s : Common) (f : Fixed) (below : L
   frames-called = (
     callee,
     frames-grow p s.store (without room after) (record { fixed = f; todo = rest } ∷ below)
-        (opened-without room (arguments f.slots s.store d) s (room-clear room n s.store refl fresh)) of,
+        (opened-without room (arguments f.slots s.store d) s (room-clear room n s.store refl fresh))
+        of,
   )
 
 -- the event of a command that is the task's own affair
-pub goes-local : (p : Program) (formed : IsFormed p) (ev : Event) (s : Common) (f : Fixed) (below : List Frame)
+pub goes-local : (p : Program) (formed : IsFormed p) (ev : Event) (s : Common) (f : Fixed)
+    (below : List Frame)
     (c : Command) (rest : List Item) (t : Common) (u : Task) → IsLocal c
     → ((i : ℕ) → s.store (own ev.number i) ≡ None)
     → FramesAreOf p s.store (record { fixed = f; todo = command c ∷ rest } ∷ below)
-    → Does p ev s f below c rest t u → Goes p s (record { fixed = f; todo = command c ∷ rest } ∷ below) t u
+    → Does p ev s f below c rest t u
+    → Goes p s (record { fixed = f; todo = command c ∷ rest } ∷ below) t u
 goes-local p formed ev s f below (assign q x e) rest t u l fresh of d =
-    goes-set p s f below (assign q x e) rest t u of (f.slots x.var) _ (ap (λ (z : Common). z.store) d.0)
+    goes-set p s f below (assign q x e) rest t u of (f.slots x.var) _
+    (ap (λ (z : Common). z.store) d.0)
     (ap (λ (z : Common). z.held) d.0) d.1
 goes-local p formed ev s f below (look_up q x e k) rest t u l fresh of d =
-    goes-set p s f below (look_up q x e k) rest t u of (f.slots x.var) _ (ap (λ (z : Common). z.store) d.3)
+    goes-set p s f below (look_up q x e k) rest t u of (f.slots x.var) _
+    (ap (λ (z : Common). z.store) d.3)
     (ap (λ (z : Common). z.held) d.3) d.4
 goes-local p formed ev s f below (mutate q e k v) rest t u l fresh of d =
     goes-same p s f below (mutate q e k v) rest t u of (ap (λ (z : Common). z.store) d.3)
@@ -376,7 +400,8 @@ goes-local p formed ev s f below (dispose q e) rest t u l fresh of d =
     goes-same p s f below (dispose q e) rest t u of (ap (λ (z : Common). z.store) d.3)
     (ap (λ (z : Common). z.held) d.3) d.4
 goes-local p formed ev s f below (if q test this that) rest t u l fresh of d =
-    let grows : Grows s.store t.store = subst (Grows s.store) (sym (ap (λ (z : Common). z.store) d.0)) (λ slot h. h) in
+    let grows : Grows s.store t.store =
+    subst (Grows s.store) (sym (ap (λ (z : Common). z.store) d.0)) (λ slot h. h) in
     elim d.1 [
       | inl y ↦ goes-on p s f below (if q test this that) rest t u of (items this ++ rest) y.1 grows
           (ap (λ (z : Common). z.held) d.0)
@@ -390,24 +415,32 @@ goes-local p formed ev s f below (if q test this that) rest t u l fresh of d =
           (inside-items that rest) (λ r. items-exits r that rest)
     ]
 goes-local p formed ev s f below (while q test kept body) rest t u l fresh of d =
-    let grows : Grows s.store t.store = subst (Grows s.store) (sym (ap (λ (z : Common). z.store) d.0)) (λ slot h. h) in
+    let grows : Grows s.store t.store =
+    subst (Grows s.store) (sym (ap (λ (z : Common). z.store) d.0)) (λ slot h. h) in
     elim d.1 [
       | inl y ↦ goes-on p s f below (while q test kept body) rest t u of
-          (items body ++ command (while q test kept body) ∷ rest) y.1 grows (ap (λ (z : Common). z.held) d.0)
+          (items body ++ command (while q test kept body) ∷ rest) y.1 grows
+          (ap (λ (z : Common). z.held) d.0)
           (sites-again (while q test kept body) body rest (λ z k. k))
           (inside-items body (command (while q test kept body) ∷ rest))
           (λ r. items-exits r body (command (while q test kept body) ∷ rest))
       | inr m ↦ goes-on p s f below (while q test kept body) rest t u of rest m.1 grows
-          (ap (λ (z : Common). z.held) d.0) (sites-rest (while q test kept body) rest) refl (λ r. refl)
+          (ap (λ (z : Common). z.held) d.0) (sites-rest (while q test kept body) rest) refl
+          (λ r. refl)
     ]
 goes-local p formed ev s f below (call q c) rest t u l fresh of d =
     let after = goes-frame p s.store s.store f (command (call q c) ∷ rest) rest (λ slot h. h)
     (sites-rest (call q c) rest) refl of.0 in
     record {
-      frames = callee_frame f.slots c d.0 (room_for d.0 ev.number 0) ∷ record { fixed = f; todo = rest } ∷ below;
+      frames = callee_frame f.slots c d.0 (room_for d.0 ev.number 0) ∷ record {
+        fixed = f;
+        todo =
+            rest;
+      } ∷ below;
       is = d.3;
       of = subst (λ (z : Common). FramesAreOf p z.store
-          (callee_frame f.slots c d.0 (room_for d.0 ev.number 0) ∷ record { fixed = f; todo = rest } ∷ below))
+          (callee_frame f.slots c d.0 (room_for d.0 ev.number 0) ∷ record { fixed = f; todo = rest }
+          ∷ below))
           (sym d.2)
           (frames-called p formed s f below rest ev.number fresh (after, of.1) (call q c) c d.0 refl
           (in-first c []) of.0 d.1);
@@ -419,11 +452,15 @@ goes-local p formed ev s f below (call q c) rest t u l fresh of d =
         → sets_up p c.callee ≡ false
     no_init o = (calls-within p o.procedure (call q c)
         (command-within p formed f (call q c) rest o.procedure o.there
-        (o.todo (record { entered = inside rest; command = call q c }) (sites-first (call q c) rest))) c
+        (o.todo (record { entered = inside rest; command = call q c })
+        (sites-first (call q c) rest))) c
         (in-first c [])).no_init
 
     called-regions : (r : ResId) (h : Procedure) → sets_up p c.callee ≡ false
-        → regions p r (callee_frame f.slots c h (room_for h ev.number 0) ∷ record { fixed = f; todo = rest } ∷ below)
+        → regions p r (callee_frame f.slots c h (room_for h ev.number 0) ∷ record {
+          fixed = f;
+          todo = rest;
+        } ∷ below)
         ≡ regions p r (record { fixed = f; todo = command (call q c) ∷ rest } ∷ below)
     called-regions r h e =
         let none : throughout p r (callee_frame f.slots c h (room_for h ev.number 0)).fixed ≡ 0 =
@@ -434,8 +471,10 @@ goes-local p formed ev s f below (fork q c e) rest t u l fresh of d = absurd l
 goes-local p formed ev s f below (with q r test body) rest t u l fresh of d = absurd l
 
 -- the return of a procedure that doesn't set the resources up
-pub goes-return : (p : Program) (s : Common) (f : Fixed) (below : List Frame) (t : Common) (u : Task)
-    → sets_up p f.procedure ≡ false → FramesAreOf p s.store (record { fixed = f; todo = [] } ∷ below)
+pub goes-return : (p : Program) (s : Common) (f : Fixed) (below : List Frame) (t : Common)
+    (u : Task)
+    → sets_up p f.procedure ≡ false
+    → FramesAreOf p s.store (record { fixed = f; todo = [] } ∷ below)
     → t ≡ returned p f s → u ≡ runs below → Goes p s (record { fixed = f; todo = [] } ∷ below) t u
 goes-return p s f below t u e of is now = record {
   frames = below;

@@ -1,4 +1,5 @@
--- What a part keeps where its pieces change: nothing is lost where they stay as they are, and an event spends a
+-- What a part keeps where its pieces change: nothing is lost where they stay as they are, and an
+-- event spends a
 -- unit.
 -- Names: `same-LAW` of pieces that stay, `performed-LAW` of an event.
 use Rattle.std.specs.Prelude.{◌≡◌, ◌≢◌, ◌==◌, ◌+◌, ◌≤◌, ℕ, suc, Bool, List, ◌∷◌, length, map, Option, Result, Ok, Err, OnErr, Contains, is_some}
@@ -37,10 +38,12 @@ same-common s t h = λ i. record {
 }
 
 -- the part is one where its pieces are
-pub same-part : (task : Path) (stand now : CodeStand) (shared after : Shared) (supply : List Range) (clock : ℕ)
+pub same-part : (task : Path) (stand now : CodeStand) (shared after : Shared) (supply : List Range)
+    (clock : ℕ)
     (keeps : Bool) (log : List CodeStamped) (given : ℕ) → stand_in now ≡ stand_in stand
     → common_of after ≡ common_of shared
-    → part_with task now after supply clock keeps log given ≡ part_with task stand shared supply clock keeps log given
+    → part_with task now after supply clock keeps log given ≡ part_with task stand shared supply
+    clock keeps log given
 same-part task stand now shared after supply clock keeps log given e h = λ i. record {
   part = record {
     task = task;
@@ -57,13 +60,15 @@ same-part task stand now shared after supply clock keeps log given e h = λ i. r
 }
 
 -- and whoever holds something is still the task
-pub same-own : (task : Path) (shared after : Shared) → (common_of after).held ≡ (common_of shared).held
+pub same-own : (task : Path) (shared after : Shared)
+    → (common_of after).held ≡ (common_of shared).held
     → AreOwn shared.held task → AreOwn after.held task
 same-own task shared after e h r holder is =
     h r holder (sym (ap (λ (f : ResId → Option Path). f (record { 0 = r })) e) ∙ is)
 
 -- a unit that is spent isn't among the others
-spent-other : (n : ℕ) (us vs : List ℕ) (m : ℕ) → us ≡ n ∷ vs → times n us ≤ 1 → Contains vs m → m ≢ n
+spent-other : (n : ℕ) (us vs : List ℕ) (m : ℕ) → us ≡ n ∷ vs → times n us ≤ 1 → Contains vs m
+    → m ≢ n
 spent-other n us vs m e once h same =
     let there = count-contains n vs (subst (λ z. Contains vs z) same h) in
     let all = ap (times n) e ∙ count-cons n n vs in
@@ -73,7 +78,8 @@ spent-other n us vs m e once h same =
     ]
 
 -- nor is any of them twice
-spent-once : (n : ℕ) (us vs : List ℕ) → us ≡ n ∷ vs → ((m : ℕ) → times m us ≤ 1) → (m : ℕ) → times m vs ≤ 1
+spent-once : (n : ℕ) (us vs : List ℕ) → us ≡ n ∷ vs → ((m : ℕ) → times m us ≤ 1) → (m : ℕ)
+    → times m vs ≤ 1
 spent-once n us vs e once m =
     let all = ap (times m) e ∙ count-cons m n vs in
     let h = once m in
@@ -92,11 +98,14 @@ performed-keeps event clock a b k units unmade runs later within notes = record 
       let there : Contains (numbers a.part.supply) n = subst (λ z. Contains z n) (sym units)
       (contains-rest event.number (numbers b.part.supply) n h) in
       unmade n there
-      (spent-other event.number (numbers a.part.supply) (numbers b.part.supply) n units (k.once event.number) h)
+      (spent-other event.number (numbers a.part.supply) (numbers b.part.supply) n units
+      (k.once event.number) h)
       (k.unmade n there);
   waiting = λ h. absurd (runs h);
   time =
-      let left : length (numbers a.part.supply) ≡ suc (length (numbers b.part.supply)) = ap length units in
-      notes-in_time clock a.log event a b notes (logged-later a.clock clock a.log later (k.time).logged)
+      let left : length (numbers a.part.supply) ≡ suc (length (numbers b.part.supply)) =
+      ap length units in
+      notes-in_time clock a.log event a b notes
+      (logged-later a.clock clock a.log later (k.time).logged)
       (k.time).unlogged (omega arith);
 }

@@ -51,13 +51,15 @@ nils-at (suc n) zero = refl
 nils-at (suc n) (suc field) = nils-at n field
 
 -- the cell of a `new` has nil in each field
-pub blank-cell : (n : ℕ) (values : FieldValues) → values ≡ replicate n nil → cell_of values ≡ (λ field. nil)
+pub blank-cell : (n : ℕ) (values : FieldValues) → values ≡ replicate n nil
+    → cell_of values ≡ (λ field. nil)
 blank-cell n values e = λ i. λ field. (ap (λ z. slice_index_or z field nil) e ∙ nils-at n field) i
 
 -- a field that is set is there
 field-there : (p : Program) (effect : Effect) (cells : Cells) → HasWidth (length p.fields) cells
     → EffectWithin p effect → HasField effect cells
-field-there p (Edits (Put at f v)) cells w e = λ values h. subst (λ z. f.0 < z) (sym (w at values h)) e
+field-there p (Edits (Put at f v)) cells w e =
+    λ values h. subst (λ z. f.0 < z) (sym (w at values h)) e
 field-there p (Edits Nothing) cells w e = tt
 field-there p (Edits (Set spot v)) cells w e = tt
 field-there p (Edits (Remove at)) cells w e = tt
@@ -76,11 +78,13 @@ not-ended [] f i rest (g ∷ below) h = h
 not-ended (turn ∷ path) f i rest below h = h
 
 -- where there is a next unit, some are left
-pub units-left : (supply : List Range) (number : ℕ) → numbers supply ≡ number ∷ drop 1 (numbers supply)
+pub units-left : (supply : List Range) (number : ℕ)
+    → numbers supply ≡ number ∷ drop 1 (numbers supply)
     → numbers supply ≢ []
 units-left supply number units none = absurd (let h = sym units ∙ none in cc)
 
-module _ (p : Program) (formed : IsFormed p) (a : Part) (keeps : Keeps (part_of a)) (of : IsPartOf p a)
+module _ (p : Program) (formed : IsFormed p) (a : Part) (keeps : Keeps (part_of a))
+    (of : IsPartOf p a)
     (number : ℕ) (units : numbers a.supply ≡ number ∷ drop 1 (numbers a.supply)) where
   -- the number is no location, and no number of a slot
   free-number : IsUnmade (common_of a.shared).heap (common_of a.shared).store number
@@ -111,11 +115,13 @@ module _ (p : Program) (formed : IsFormed p) (a : Part) (keeps : Keeps (part_of 
     own-goes = record { going = not-ended a.task f (command c) rest below; private = l }
 
     -- without a number it can't
-    pub own-spent : numbers a.supply ≡ [] → PlansOf p a (frames_with f (command c ∷ rest) below) (Says Spent)
+    pub own-spent : numbers a.supply ≡ []
+        → PlansOf p a (frames_with f (command c ∷ rest) below) (Says Spent)
     own-spent none = ((λ e. absurd (cc)), (own-goes, none))
 
     -- why its event is none
-    pub own-missing : (why : Refusal) → PlansCommand p (own_event a number) (common_of a.shared) f below c rest
+    pub own-missing : (why : Refusal) → PlansCommand p (own_event a number) (common_of a.shared) f
+        below c rest
         (refused why) → IsMissing (common_of a.shared) f c why
     own-missing why h = local-refused (own_event a number) (common_of a.shared) f c why l
         (λ zero. let above = free-number.positive in absurd (omega arith)) free-cell h
@@ -126,14 +132,18 @@ module _ (p : Program) (formed : IsFormed p) (a : Part) (keeps : Keeps (part_of 
 
     -- no parallel call is planned
     pub own-runs : (one two : Callee)
-        → PlansCommand p (own_event a number) (common_of a.shared) f below c rest (forks one two) → ⊥
-    own-runs one two h = local-runs p (own_event a number) (common_of a.shared) _ f below c rest _ _ _ l h.0
+        → PlansCommand p (own_event a number) (common_of a.shared) f below c rest (forks one two)
+        → ⊥
+    own-runs one two h = local-runs p (own_event a number) (common_of a.shared) _ f below c rest _ _
+        _ l h.0
 
     module _ (effect : Effect) (change : Change)
-        (planned : PlansCommand p (own_event a number) (common_of a.shared) f below c rest (acts effect change)) where
+        (planned : PlansCommand p (own_event a number) (common_of a.shared) f below c rest
+        (acts effect change)) where
       takes : NextTakes (own_event a number) (does f below c rest) (has (numbers a.supply))
           (has (drop 1 (numbers a.supply)))
-      takes = local-takes (own_event a number) c (numbers a.supply) (drop 1 (numbers a.supply)) l units refl
+      takes = local-takes (own_event a number) c (numbers a.supply) (drop 1 (numbers a.supply)) l
+          units refl
           (blank-cell (length p.fields) a.blank of.blank)
 
       slots : (slot : Slot) → Reads (common_of a.shared).store (does f below c rest) (variable slot)
@@ -142,22 +152,26 @@ module _ (p : Program) (formed : IsFormed p) (a : Part) (keeps : Keeps (part_of 
       slots slot h = command-there p formed (common_of a.shared).store f c rest frames-of.0
           (local-outside c l) slot h
 
-      goes : Goes p (common_of a.shared) (frames_with f (command c ∷ rest) below) (acted a number effect)
+      goes : Goes p (common_of a.shared) (frames_with f (command c ∷ rest) below)
+          (acted a number effect)
           (runs (moved change (frames_with f (command c ∷ rest) below)))
       goes = goes-local p formed (own_event a number) (common_of a.shared) f below c rest
-          (acted a number effect) (runs (moved change (frames_with f (command c ∷ rest) below))) l free-slots
+          (acted a number effect) (runs (moved change (frames_with f (command c ∷ rest) below))) l
+          free-slots
           frames-of planned.0
 
       same-frames : goes.frames ≡ moved change (frames_with f (command c ∷ rest) below)
       same-frames = let e = goes.is in cc
 
-      pub own-acts : PlansOf p a (frames_with f (command c ∷ rest) below) (Acts number effect change)
+      pub own-acts : PlansOf p a (frames_with f (command c ∷ rest) below)
+          (Acts number effect change)
       own-acts = (
         (
           own-goes,
           some-units,
           goes-not_at_no_cell p (own_event a number) (common_of a.shared) (acted a number effect)
-              (does f below c rest) (runs (moved change (frames_with f (command c ∷ rest) below))) planned.0,
+              (does f below c rest) (runs (moved change (frames_with f (command c ∷ rest) below)))
+              planned.0,
         ),
         record {
           private = l;
@@ -167,9 +181,12 @@ module _ (p : Program) (formed : IsFormed p) (a : Part) (keeps : Keeps (part_of 
           own = record {
             suits = planned.1;
             field = field-there p effect a.shared.heap of.wide planned.2;
-            unmade = unmade-after p (own_event a number) (common_of a.shared) (acted a number effect)
-                (does f below c rest) (runs (moved change (frames_with f (command c ∷ rest) below))) planned.0
-                slots (takes-at p (own_event a number) (does f below c rest) (has (numbers a.supply))
+            unmade = unmade-after p (own_event a number) (common_of a.shared)
+                (acted a number effect)
+                (does f below c rest) (runs (moved change (frames_with f (command c ∷ rest) below)))
+                planned.0
+                slots (takes-at p (own_event a number) (does f below c rest)
+                (has (numbers a.supply))
                 (has (drop 1 (numbers a.supply))) takes);
             held = goes.held;
           };

@@ -24,7 +24,8 @@ units_first base (suc count) l =
     (λ i. base ∷ units (next i) (less i))
 
 -- what is pushed comes first
-pub ranges_snoc : (us : List Units) (u : Units) → ranges_of (us ++ u ∷ []) ≡ range_of u ∷ ranges_of us
+pub ranges_snoc : (us : List Units) (u : Units) → ranges_of (us ++ u ∷ []) ≡ range_of u
+    ∷ ranges_of us
 ranges_snoc [] u = refl
 ranges_snoc (v ∷ us) u = ap (λ z. z ++ range_of v ∷ []) (ranges_snoc us u)
 

@@ -1,5 +1,6 @@
 -- What the event of a command of a part rests on, and why it may be none.
--- Names: `ready-LAW` of a command that stands in a body of the program, `local-LAW` of one that is the task's own
+-- Names: `ready-LAW` of a command that stands in a body of the program, `local-LAW` of one that is
+-- the task's own
 -- affair.
 use Rattle.std.specs.Prelude.{◌≡◌, ◌≢◌, ◌<◌, ℕ, List, [], ◌∷◌, length, None, is_some}
 use Rattle.std.specs.List.{slice_get}
@@ -34,9 +35,11 @@ callee-there p c h = elim (slice_get_cases p.procedures c.callee.0).1 [
 ]
 
 -- the procedures are there that a well-formed command calls
-pub ready-callees : (p : Program) (g : Procedure) (c : Command) → CommandWithin p g c → HasCallees p c
+pub ready-callees : (p : Program) (g : Procedure) (c : Command) → CommandWithin p g c
+    → HasCallees p c
 ready-callees p g (call place c) h = callee-there p c h.callee
-ready-callees p g (fork place c d) h = (callee-there p c (h.0).callee, callee-there p d (h.1).callee)
+ready-callees p g (fork place c d) h =
+    (callee-there p c (h.0).callee, callee-there p d (h.1).callee)
 ready-callees p g (assign place x e) h = tt
 ready-callees p g (look_up place x e field) h = tt
 ready-callees p g (mutate place e field v) h = tt
@@ -73,7 +76,8 @@ local-outside (call place c) h = refl
 local-outside (fork place c d) h = refl
 
 -- the event of the next command of a frame has what it rests on
-pub ready : (p : Program) (formed : IsFormed p) (s : Common) (f : Fixed) (c : Command) (rest : List Item)
+pub ready : (p : Program) (formed : IsFormed p) (s : Common) (f : Fixed) (c : Command)
+    (rest : List Item)
     (n : ℕ) → FrameIsOf p s.store (record { fixed = f; todo = command c ∷ rest }) → IsLocal c
     → ((i : ℕ) → s.store (own n i) ≡ None) → IsReady p n s f c
 ready p formed s f c rest n of l fresh =
@@ -81,7 +85,8 @@ ready p formed s f c rest n of l fresh =
     (of.todo (record { entered = inside rest; command = c }) (sites-first c rest)) in
     record {
       written = λ slot w.
-          let (v, e) = command-there p formed s.store f c rest of (local-outside c l) slot (inr w) in
+          let (v, e) = command-there p formed s.store f c rest of (local-outside c l) slot
+          (inr w) in
           ap is_some e;
       callees = ready-callees p of.procedure c within;
       field = ready-field p of.procedure c within;
@@ -91,7 +96,8 @@ ready p formed s f c rest n of l fresh =
 -- it takes the next unit as its number
 pub local-takes : (ev : Event) (c : Command) (us rest : List ℕ) → IsLocal c → us ≡ ev.number ∷ rest
     → ev.at ≡ ev.number → ev.fields ≡ (λ f. nil) → CommandTakes ev c (has us) (has rest)
-local-takes ev c us rest l e at fields = subst (λ z. CommandTakes ev c (has z) (has rest)) (sym e) (go c l)
+local-takes ev c us rest l e at fields =
+    subst (λ z. CommandTakes ev c (has z) (has rest)) (sym e) (go c l)
   where
     go : (c : Command) → IsLocal c → CommandTakes ev c (has (ev.number ∷ rest)) (has rest)
     go (new place x) h = (rest, (refl, refl), refl, at, fields)
@@ -127,8 +133,10 @@ local-refused ev s f (look_up place x e field) why l a n h =
     finds-none s f (look_up place x e field) why e h (λ v m. m)
 local-refused ev s f (mutate place e field d) why l a n h =
     finds-none s f (mutate place e field d) why e h (λ v m. m)
-local-refused ev s f (dispose place e) why l a n h = finds-none s f (dispose place e) why e h (λ v m. m)
-local-refused ev s f (new place x) why l a n h = elim h.1 [ inl z ↦ absurd (a z) | inr k ↦ absurd (k n) ]
+local-refused ev s f (dispose place e) why l a n h =
+    finds-none s f (dispose place e) why e h (λ v m. m)
+local-refused ev s f (new place x) why l a n h =
+    elim h.1 [ inl z ↦ absurd (a z) | inr k ↦ absurd (k n) ]
 local-refused ev s f (assign place x e) why l a n h = absurd h
 local-refused ev s f (if place test this that) why l a n h = absurd h
 local-refused ev s f (while place test kept body) why l a n h = absurd h
@@ -137,12 +145,15 @@ local-refused ev s f (fork place c d) why l a n h = absurd l
 local-refused ev s f (with place r test body) why l a n h = absurd l
 
 -- after it the task runs
-pub local-runs : (p : Program) (ev : Event) (s t : Common) (f : Fixed) (below : List Frame) (c : Command)
+pub local-runs : (p : Program) (ev : Event) (s t : Common) (f : Fixed) (below : List Frame)
+    (c : Command)
     (rest : List Item) (frames : List Frame) (one two : Task) → IsLocal c
     → Does p ev s f below c rest t (waits frames one two) → ⊥
 local-runs p ev s t f below (assign place x e) rest frames one two l d = absurd (let h = d.1 in cc)
-local-runs p ev s t f below (look_up place x e field) rest frames one two l d = absurd (let h = d.4 in cc)
-local-runs p ev s t f below (mutate place e field v) rest frames one two l d = absurd (let h = d.4 in cc)
+local-runs p ev s t f below (look_up place x e field) rest frames one two l d =
+    absurd (let h = d.4 in cc)
+local-runs p ev s t f below (mutate place e field v) rest frames one two l d =
+    absurd (let h = d.4 in cc)
 local-runs p ev s t f below (new place x) rest frames one two l d = absurd (let h = d.3 in cc)
 local-runs p ev s t f below (dispose place e) rest frames one two l d = absurd (let h = d.4 in cc)
 local-runs p ev s t f below (if place test this that) rest frames one two l d =

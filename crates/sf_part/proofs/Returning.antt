@@ -34,7 +34,8 @@ use Rattle.sf_part.proofs.Planned.{units-left}
 use Rattle.sf_part.proofs.Unmade.{unmade-after}
 
 -- a frame that is returned from isn't the entry's own
-called : (path : Path) (below : List Frame) → ((length path == 0) ≡ true → below ≢ []) → IsCalled path below
+called : (path : Path) (below : List Frame) → ((length path == 0) ≡ true → below ≢ [])
+    → IsCalled path below
 called [] [] h = h refl refl
 called [] (f ∷ below) h = tt
 called (turn ∷ path) below h = tt
@@ -56,60 +57,67 @@ module _ (p : Program) (a : Part) (f : Fixed) (below : List Frame)
 
   module _ (keeps : Keeps (part_of a)) (of : IsPartOf p a) (number : ℕ)
       (units : numbers a.supply ≡ number ∷ drop 1 (numbers a.supply)) (room : CodeRoom)
-      (same : f.room ≡ room_of room) (stand : stand_in a.stand ≡ running (frames_with f [] below)) where
-    -- the frames are the program's
-    frames-of : FramesAreOf p (common_of a.shared).store (frames_with f [] below)
-    frames-of = subst (StandIsOf p (common_of a.shared).store) stand of.is.stands
+      (same : f.room ≡ room_of room) (stand : stand_in a.stand ≡ running (frames_with f [] below))
+    where
+      -- the frames are the program's
+      frames-of : FramesAreOf p (common_of a.shared).store (frames_with f [] below)
+      frames-of = subst (StandIsOf p (common_of a.shared).store) stand of.is.stands
 
-    steps : TaskStep p (own_event a number) (common_of a.shared) (runs (frames_with f [] below))
-        (acted a number (Edits (Close room false))) (runs below)
-    steps = (
-      called a.task below alone,
-      (λ i. free_all_if (sym init i) (close_room (sym same i) (common_of a.shared))),
-      refl,
-    )
+      steps : TaskStep p (own_event a number) (common_of a.shared) (runs (frames_with f [] below))
+          (acted a number (Edits (Close room false))) (runs below)
+      steps = (
+        called a.task below alone,
+        (λ i. free_all_if (sym init i) (close_room (sym same i) (common_of a.shared))),
+        refl,
+      )
 
-    slots : (slot : Slot) → Reads (common_of a.shared).store (returns f below) (variable slot)
-        ⊎ Writes (common_of a.shared).store (returns f below) (variable slot)
-        → (v : Value) × ((common_of a.shared).store slot ≡ Some v)
-    slots slot h = elim h [
-      | inl r ↦ absurd r
-      | inr w ↦ room-there p (common_of a.shared).store (record { fixed = f; todo = [] }) frames-of.0 slot w
-    ]
+      slots : (slot : Slot) → Reads (common_of a.shared).store (returns f below) (variable slot)
+          ⊎ Writes (common_of a.shared).store (returns f below) (variable slot)
+          → (v : Value) × ((common_of a.shared).store slot ≡ Some v)
+      slots slot h = elim h [
+        | inl r ↦ absurd r
+        | inr w ↦ room-there p (common_of a.shared).store (record { fixed = f; todo = [] })
+            frames-of.0 slot w
+      ]
 
-    takes : NextTakes (own_event a number) (returns f below) (has (numbers a.supply))
-        (has (drop 1 (numbers a.supply)))
-    takes = subst (λ z. NextTakes (own_event a number) (returns f below) (has z)
-        (has (drop 1 (numbers a.supply)))) (sym units)
-        (drop 1 (numbers a.supply), (refl, refl), refl)
+      takes : NextTakes (own_event a number) (returns f below) (has (numbers a.supply))
+          (has (drop 1 (numbers a.supply)))
+      takes = subst (λ z. NextTakes (own_event a number) (returns f below) (has z)
+          (has (drop 1 (numbers a.supply)))) (sym units)
+          (drop 1 (numbers a.supply), (refl, refl), refl)
 
-    goes : Goes p (common_of a.shared) (frames_with f [] below) (acted a number (Edits (Close room false))) (runs below)
-    goes = goes-return p (common_of a.shared) f below (acted a number (Edits (Close room false))) (runs below) init
-        frames-of steps.1 refl
+      goes : Goes p (common_of a.shared) (frames_with f [] below)
+          (acted a number (Edits (Close room false))) (runs below)
+      goes = goes-return p (common_of a.shared) f below (acted a number (Edits (Close room false)))
+          (runs below) init
+          frames-of steps.1 refl
 
-    same-frames : goes.frames ≡ below
-    same-frames = let e = goes.is in cc
+      same-frames : goes.frames ≡ below
+      same-frames = let e = goes.is in cc
 
-    pub return-acts : PlansOf p a (frames_with f [] below) (Acts number (Edits (Close room false)) Return)
-    return-acts = (
-      (
-        return-goes,
-        units-left a.supply number units,
-        (λ h. h),
-      ),
-      record {
-        private = init;
-        steps = steps;
-        takes = takes;
-        slots = slots;
-        own = record {
-          suits = tt;
-          field = tt;
-          unmade = unmade-after p (own_event a number) (common_of a.shared) (acted a number (Edits (Close room false)))
-              (returns f below) (runs below) steps slots (λ location m. absurd m);
-          held = goes.held;
-        };
-        of = subst (FramesAreOf p (acted a number (Edits (Close room false))).store) same-frames goes.of;
-        regions = λ r. ap (regions p r) (sym same-frames) ∙ goes.regions r;
-      },
-    )
+      pub return-acts : PlansOf p a (frames_with f [] below)
+          (Acts number (Edits (Close room false)) Return)
+      return-acts = (
+        (
+          return-goes,
+          units-left a.supply number units,
+          (λ h. h),
+        ),
+        record {
+          private = init;
+          steps = steps;
+          takes = takes;
+          slots = slots;
+          own = record {
+            suits = tt;
+            field = tt;
+            unmade = unmade-after p (own_event a number) (common_of a.shared)
+                (acted a number (Edits (Close room false)))
+                (returns f below) (runs below) steps slots (λ location m. absurd m);
+            held = goes.held;
+          };
+          of = subst (FramesAreOf p (acted a number (Edits (Close room false))).store) same-frames
+              goes.of;
+          regions = λ r. ap (regions p r) (sym same-frames) ∙ goes.regions r;
+        },
+      )

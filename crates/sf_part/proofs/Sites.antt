@@ -1,4 +1,5 @@
--- The commands that are still to be done, with the regions around them, and what an event makes of them.
+-- The commands that are still to be done, with the regions around them, and what an event makes of
+-- them.
 -- Names: `inside-LAW` of the regions, `sites-LAW` of the commands.
 use Rattle.std.specs.Prelude.{◌≡◌, ◌⊎◌, List, [], ◌∷◌, ◌++◌, Contains}
 use Rattle.std.proofs.Common.{sym, ap, ◌∙◌, refl, subst, inl, inr, append_assoc}
@@ -25,7 +26,8 @@ pub sites-items : (b : Block) (rest : List Item)
 sites-items done rest = refl
 sites-items (then c b) rest =
     let here = inside-items b rest in
-    (λ i. record { entered = here i; command = c } ∷ (inner_sites (here i) c ++ sites-items b rest i))
+    (λ i. record { entered = here i; command = c }
+    ∷ (inner_sites (here i) c ++ sites-items b rest i))
     ∙ ap (λ z. record { entered = inside rest; command = c } ∷ z)
     (sym (append_assoc (inner_sites (inside rest) c) (sites (inside rest) b) (sites_in rest)))
 
@@ -80,7 +82,11 @@ sites-again c b rest inner s h =
 pub sites-first : (c : Command) (rest : List Item)
     → Contains (sites_in (command c ∷ rest)) (record { entered = inside rest; command = c })
 sites-first c rest = (contains-cons (record { entered = inside rest; command = c })
-    (inner_sites (inside rest) c ++ sites_in rest) (record { entered = inside rest; command = c })).1 (inl refl)
+    (inner_sites (inside rest) c ++ sites_in rest) (record {
+      entered = inside rest;
+      command =
+          c;
+    })).1 (inl refl)
 
 -- a resource is among those or it isn't
 pub among_or_not : (rs : List ResId) (r : ResId) → Contains rs r ⊎ (Contains rs r → ⊥)

@@ -51,7 +51,8 @@ taking-back old part joined copy now e s t =
     splits-cancel_left t (splits-comm (subst (λ z. Splits joined old z) e s))
 
 -- cells apart by their locations are apart by their values
-pub taking-cells : (x y : Option FieldValues) → Apart (option_map cell_of x) (option_map cell_of y) → Apart x y
+pub taking-cells : (x y : Option FieldValues) → Apart (option_map cell_of x) (option_map cell_of y)
+    → Apart x y
 taking-cells None y h = tt
 taking-cells (Some x) None h = tt
 taking-cells (Some x) (Some y) h = h
@@ -62,7 +63,8 @@ pub taking-width : (n : ℕ) (all one other : Cells) → Splits (get all) (get o
 taking-width n all one other s h k location values e =
     go (get one location) refl (sym (s.is location) ∙ e)
   where
-    go : (o : Option FieldValues) → get one location ≡ o → option_or o (get other location) ≡ Some values
+    go : (o : Option FieldValues) → get one location ≡ o → option_or o (get other location)
+        ≡ Some values
         → length values ≡ n
     go None i f = k location values f
     go (Some v) i f = h location values (i ∙ f)
@@ -76,10 +78,13 @@ taking-freed s t u r task free h k = same-common u s (record {
   held = λ q. k.held q ∙ go q (q.0 == r.0) refl (h.held q);
 })
   where
-    go : (q : ResId) (b : Bool) → q.0 == r.0 ≡ b → t.held q ≡ cond (q.0 == r.0) (Some task) (s.held q)
+    go : (q : ResId) (b : Bool) → q.0 == r.0 ≡ b
+        → t.held q ≡ cond (q.0 == r.0) (Some task) (s.held q)
         → cond (q.0 == r.0) None (t.held q) ≡ s.held q
-    go q true e i = ap (λ z. cond z None (t.held q)) e ∙ sym (ap s.held (resource-same q r e) ∙ free)
-    go q false e i = ap (λ z. cond z None (t.held q)) e ∙ i ∙ ap (λ z. cond z (Some task) (s.held q)) e
+    go q true e i = ap (λ z. cond z None (t.held q)) e
+        ∙ sym (ap s.held (resource-same q r e) ∙ free)
+    go q false e i = ap (λ z. cond z None (t.held q)) e ∙ i
+        ∙ ap (λ z. cond z (Some task) (s.held q)) e
 
 -- what is there after a hold and a content that is taken in
 pub record Taken (before after : Common) (k : Content) (r : ResId) (task : Path) : Type 0 where
@@ -88,7 +93,8 @@ pub record Taken (before after : Common) (k : Content) (r : ResId) (task : Path)
   pub held : after.held ≡ (λ q. cond (q.0 == r.0) (Some task) (before.held q))
 
 pub taking-after : (s t u : Common) (k : Content) (r : ResId) (task : Path)
-    → IsSameCommon t (set_holder r (Some task) s) → Splits u.heap t.heap k.heap → Splits u.store t.store k.store
+    → IsSameCommon t (set_holder r (Some task) s) → Splits u.heap t.heap k.heap
+    → Splits u.store t.store k.store
     → u.held ≡ t.held → Taken s u k r task
 taking-after s t u k r task h cells slots held = record {
   heap = subst (λ z. Splits u.heap z k.heap) (map-same t.heap s.heap h.heap) cells;
@@ -97,7 +103,8 @@ taking-after s t u k r task h cells slots held = record {
 }
 
 -- a number that neither has stays unmade
-pub taking-unmade : (s u : Common) (k : Content) (r : ResId) (task : Path) (n : ℕ) → Taken s u k r task
+pub taking-unmade : (s u : Common) (k : Content) (r : ResId) (task : Path) (n : ℕ)
+    → Taken s u k r task
     → IsUnmade s.heap s.store n → (k.heap n ≡ None) × ((i : ℕ) → k.store (own n i) ≡ None)
     → IsUnmade u.heap u.store n
 taking-unmade s u k r task n t m (cells, slots) = record {
@@ -110,12 +117,14 @@ taking-unmade s u k r task n t m (cells, slots) = record {
 
 -- whoever holds something is still the task
 pub taking-own : (task : Path) (before after : Shared) (k : Content) (r : ResId)
-    → Taken (common_of before) (common_of after) k r task → AreOwn before.held task → AreOwn after.held task
+    → Taken (common_of before) (common_of after) k r task → AreOwn before.held task
+    → AreOwn after.held task
 taking-own task before after k r t h q holder e =
     go (q == r.0) refl (sym (ap (λ (f : ResId → Option Path). f (record { 0 = q })) t.held) ∙ e)
   where
     go : (b : Bool) → q == r.0 ≡ b
-        → cond b (Some task) ((common_of before).held (record { 0 = q })) ≡ Some holder → holder ≡ task
+        → cond b (Some task) ((common_of before).held (record { 0 = q })) ≡ Some holder
+        → holder ≡ task
     go true i f = let same : Some task ≡ Some holder = f in cc
     go false i f = h q holder f
 
@@ -126,18 +135,21 @@ few-variables [] n most r e h = absurd (let k : None ≡ Some r = e in cc)
 few-variables (q ∷ rs) zero most r e h =
     let same : q ≡ r = let k : Some q ≡ Some r = e in cc in
     let s = sum_by-cons (λ (x : Resource). length x.variables) q rs in
-    let l : length q.variables ≡ length r.variables = ap (λ (x : Resource). length x.variables) same in
+    let l : length q.variables ≡ length r.variables =
+    ap (λ (x : Resource). length x.variables) same in
     omega arith
 few-variables (q ∷ rs) (suc n) most r e h =
     let s = sum_by-cons (λ (x : Resource). length x.variables) q rs in
     few-variables rs n most r e (omega arith)
 
-pub taking-few : (p : Program) (formed : IsFormed p) (n : ℕ) (r : Resource) → slice_get p.resources n ≡ Some r
+pub taking-few : (p : Program) (formed : IsFormed p) (n : ℕ) (r : Resource)
+    → slice_get p.resources n ≡ Some r
     → length r.variables ≤ 256
 taking-few p formed n r e = few-variables p.resources n 256 r e formed.variables
 
 -- the variables of a resource of the code are those of the resource
-pub taking-count : (items : List CodeResource) (n : ℕ) (q : CodeResource) (r : Resource) → n < length items
+pub taking-count : (items : List CodeResource) (n : ℕ) (q : CodeResource) (r : Resource)
+    → n < length items
     → q ≡ get_or items n q → slice_get (map resource_of items) n ≡ Some r
     → length q.variables.items ≡ length r.variables
 taking-count [] n q r l e h = absurd (omega arith)
@@ -148,7 +160,8 @@ taking-count (x ∷ items) zero q r l e h =
 taking-count (x ∷ items) (suc n) q r l e h = taking-count items n q r (omega arith) e h
 
 -- and so is its number
-pub taking-there : (items : List CodeResource) (n : ℕ) (r : Resource) → slice_get (map resource_of items) n ≡ Some r
+pub taking-there : (items : List CodeResource) (n : ℕ) (r : Resource)
+    → slice_get (map resource_of items) n ≡ Some r
     → n < length items
 taking-there [] n r h = absurd (let k : None ≡ Some r = h in cc)
 taking-there (x ∷ items) zero r h = omega arith

@@ -24,8 +24,10 @@ pub unmade-store : (cells : Heap) (slots : Store) (n : ℕ) → IsUnmade cells s
     → slots (own n i) ≡ None
 unmade-store cells slots n u i = is_some-false (slots (own n i)) (u.store i)
 
-module _ (p : Program) (ev : Event) (s t : Common) (what : Next) (u : Task) (goes : Goes p ev s what t u)
-    (slots : (slot : Slot) → Reads s.store what (variable slot) ⊎ Writes s.store what (variable slot)
+module _ (p : Program) (ev : Event) (s t : Common) (what : Next) (u : Task)
+    (goes : Goes p ev s what t u)
+    (slots : (slot : Slot) → Reads s.store what (variable slot)
+    ⊎ Writes s.store what (variable slot)
     → (v : Value) × (s.store slot ≡ Some v))
     (at : (location : ℕ) → Makes p ev what (cell location) → location ≡ ev.number) where
   -- another number stays unmade
@@ -33,7 +35,8 @@ module _ (p : Program) (ev : Event) (s t : Common) (what : Next) (u : Task) (goe
   unmade-after n other m = record {
     positive = m.positive;
     heap = ap is_some (heap-by_next p ev s t what u goes n cell_left) ∙ m.heap;
-    store = λ i. ap is_some (store-by_next p ev s t what u goes (own n i) (slot_left i)) ∙ m.store i;
+    store = λ i. ap is_some (store-by_next p ev s t what u goes (own n i) (slot_left i))
+        ∙ m.store i;
   }
     where
       cell_left : IsLeft p ev s.store what (cell n)
@@ -46,7 +49,8 @@ module _ (p : Program) (ev : Event) (s t : Common) (what : Next) (u : Task) (goe
 
       slot_left : (i : ℕ) → IsLeft p ev s.store what (variable (own n i))
       slot_left i = record {
-        unwritten = λ x. let (v, e) = slots (own n i) (inr x) in true≢false (sym (ap is_some e) ∙ m.store i);
+        unwritten = λ x. let (v, e) = slots (own n i) (inr x) in
+            true≢false (sym (ap is_some e) ∙ m.store i);
         not_made = λ x.
             let (j, e) = makes-number p ev what (own n i) x in
             let same : n ≡ ev.number = cc in other same;

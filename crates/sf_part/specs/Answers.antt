@@ -51,4 +51,5 @@ AnswersOf p a frames (Absent v) = (numbers a.part.supply ≢ [])
 
 -- Answers: the answer is the one to a task of that part, which runs
 abbrev pub Answers : Program → TimedPart → Local → Type 0
-Answers p a answer = (frames : List Frame) × (a.part.stand ≡ running frames) × AnswersOf p a frames answer
+Answers p a answer = (frames : List Frame) × (a.part.stand ≡ running frames)
+    × AnswersOf p a frames answer

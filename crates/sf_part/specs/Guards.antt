@@ -20,7 +20,8 @@ pub record IsGuard (what : Next) (r : ResId) (f : Fixed) (test : Test Expr) : Ty
 
 -- the task of the part stands at such a region
 abbrev pub StandsAt : Part → ResId → Fixed → Test Expr → Type 0
-StandsAt a r f test = (frames : List Frame) × (a.stand ≡ running frames) × IsGuard (next (runs frames)) r f test
+StandsAt a r f test = (frames : List Frame) × (a.stand ≡ running frames)
+    × IsGuard (next (runs frames)) r f test
 
 -- the task stands at a region of that resource
 abbrev pub IsAtRegion : Part → ResId → Type 0

@@ -1,6 +1,7 @@
 -- Lent: that what goes to the children at a fork is exactly theirs: to each the footprint of its
 -- procedure's precondition, and the variables of its frame.
--- O'Hearn (2007): the parallel rule splits what a task owns along the preconditions of the two calls.
+-- O'Hearn (2007): the parallel rule splits what a task owns along the preconditions of the two
+-- calls.
 use Rattle.std.specs.Prelude.{◌≡◌, ◌↔◌, true, [], ◌∷◌, Some, is_some}
 use Rattle.sf_base.specs.declared.ids.Var.{Var}
 use Rattle.sf_base.specs.declared.value.Value.TheVariants.{Nil as nil}

@@ -1,4 +1,5 @@
--- Of: that a part is of a program: what its frames have still to do stands in bodies of the program, it
+-- Of: that a part is of a program: what its frames have still to do stands in bodies of the
+-- program, it
 -- has the variables of its frames, and it holds the resources of the regions that it is inside of.
 -- O'Hearn (2007): what a task owns is enough for it to go on alone.
 use Rattle.std.specs.Prelude.{◌≡◌, ◌⊎◌, ◌<◌, ℕ, true, cond, List, [], ◌∷◌, ◌++◌, length, Some, None, Contains, is_some}
@@ -55,7 +56,8 @@ without room store slot = cond (in_room room slot) None (store slot)
 -- each of the frames is, those below another in what is left once its own slots have vanished
 abbrev pub FramesAreOf : Program → Store → List Frame → Type 0
 FramesAreOf p store [] = Unit {0}
-FramesAreOf p store (f ∷ below) = FrameIsOf p store f × FramesAreOf p (without f.fixed.room store) below
+FramesAreOf p store (f ∷ below) = FrameIsOf p store f
+    × FramesAreOf p (without f.fixed.room store) below
 
 -- the frames of a task
 abbrev pub frames_in : Stand → List Frame
@@ -67,7 +69,8 @@ frames_in (waiting frames) = frames
 abbrev pub StandIsOf : Program → Store → Stand → Type 0
 StandIsOf p store (running frames) = FramesAreOf p store frames
 StandIsOf p store (waiting frames) = (all : Store)
-    × ((slot : Slot) → is_some (store slot) ≡ true → is_some (all slot) ≡ true) × FramesAreOf p all frames
+    × ((slot : Slot) → is_some (store slot) ≡ true → is_some (all slot) ≡ true)
+    × FramesAreOf p all frames
 
 -- IsOf: the part is of the program
 pub record IsOf (p : Program) (a : Part) : Type 0 where

@@ -17,7 +17,8 @@ use Rattle.sf_part.specs.Timed.{IsInTime, Stamped, TimedPart}
 abbrev stamped_code : Coded Stamped
 stamped_code = code_by (ℕ × (List Turn × ℕ))
     (coded× coded_ℕ (coded× (coded_list turn.the_row.coded) coded_ℕ))
-    (λ s. (s.stamp, (s.task, s.number))) (λ t. record { stamp = t.0; task = t.1.0; number = t.1.1 }) (λ _. refl)
+    (λ s. (s.stamp, (s.task, s.number))) (λ t. record { stamp = t.0; task = t.1.0; number = t.1.1 })
+    (λ _. refl)
 
 pub IsUnmade-prop : (heap : Heap) (store : Store) (number : ℕ) → IsProp (IsUnmade heap store number)
 IsUnmade-prop heap store number s t = λ i. record {
@@ -52,4 +53,5 @@ abbrev pub AreOwn : BTreeMap ℕ (List Turn) → Path → Type 0
 AreOwn held task = (r : ℕ) (holder : Path) → get nat_cmp held r ≡ Some holder → holder ≡ task
 
 pub AreOwn-prop : (held : BTreeMap ℕ (List Turn)) (task : Path) → IsProp (AreOwn held task)
-AreOwn-prop held task = Π_prop (λ r. Π_prop (λ h. →_prop (Coded-set (coded_list turn.the_row.coded) _ _)))
+AreOwn-prop held task =
+    Π_prop (λ r. Π_prop (λ h. →_prop (Coded-set (coded_list turn.the_row.coded) _ _)))

@@ -20,12 +20,15 @@ GivenContentsAreOne = (p : Program) (both a b : Part) (k j : Content)
     → HasInHand a k both → HasInHand b j both → k.resource ≡ j.resource → IsContentOf p k
     → IsContentOf p j → (k ≡ j) × (a ≡ b)
 
--- of one part with two children in hand, each with just the share of its frame, the shares are one, and
+-- of one part with two children in hand, each with just the share of its frame, the shares are one,
+-- and
 -- so is what the parent keeps, where the preconditions are determined
 unfoldable pub LentSharesAreOne : Type 0
 LentSharesAreOne = (p : Program) (all a b one two left right : Part) (f g : Frame)
-    → ((number : ℕ) (h : Procedure) → slice_get p.procedures number ≡ Some h → Determined h.pre.level)
-    → HasChildren a one two all → HasChildren b left right all → IsShareOf p f one → IsShareOf p f left
+    → ((number : ℕ) (h : Procedure) → slice_get p.procedures number ≡ Some h
+    → Determined h.pre.level)
+    → HasChildren a one two all → HasChildren b left right all → IsShareOf p f one
+    → IsShareOf p f left
     → IsShareOf p g two → IsShareOf p g right
     → (one.heap ≡ left.heap) × (one.store ≡ left.store) × (two.heap ≡ right.heap)
     × (two.store ≡ right.store) × (a.heap ≡ b.heap) × (a.store ≡ b.store)

@@ -35,7 +35,13 @@ use Rattle.sf_core.specs.Checked.Machine.InOrder.{regions}
 
 -- the event of a part's task with that number; a `new` makes its cell there, with nil in each field
 abbrev pub own_event : Part → (number : ℕ) → Event
-own_event a number = record { task = a.task; number = number; at = number; fields = cell_of a.blank }
+own_event a number = record {
+  task = a.task;
+  number = number;
+  at = number;
+  fields =
+      cell_of a.blank;
+}
 
 -- what the event makes of what the part has
 abbrev pub acted : Part → (number : ℕ) → Effect → Common
@@ -45,7 +51,8 @@ acted a number effect = applied (own_event a number) effect (common_of a.shared)
 pub record IsOwnEffect (a : Part) (number : ℕ) (effect : Effect) : Type 0 where
   pub suits : Suits (own_event a number) effect (common_of a.shared)
   pub field : HasField effect a.shared.heap
-  pub unmade : (n : ℕ) → n ≢ number → IsUnmade (common_of a.shared).heap (common_of a.shared).store n
+  pub unmade : (n : ℕ) → n ≢ number → IsUnmade (common_of a.shared).heap (common_of a.shared).store
+      n
       → IsUnmade (acted a number effect).heap (acted a number effect).store n
   pub held : (acted a number effect).held ≡ (common_of a.shared).held
 
@@ -53,7 +60,8 @@ pub record IsOwnEffect (a : Part) (number : ℕ) (effect : Effect) : Type 0 wher
 pub record ActsLocally (p : Program) (a : Part) (number : ℕ) (effect : Effect) (change : Change)
     (frames : List Frame) : Type 0 where
   pub private : IsPrivate p (next (runs frames))
-  pub steps : TaskStep p (own_event a number) (common_of a.shared) (runs frames) (acted a number effect)
+  pub steps : TaskStep p (own_event a number) (common_of a.shared) (runs frames)
+      (acted a number effect)
       (runs (moved change frames))
   pub takes : NextTakes (own_event a number) (next (runs frames)) (has (numbers a.supply))
       (has (drop 1 (numbers a.supply)))
@@ -73,7 +81,8 @@ PlansOf p a frames (Says answer) = (answer ≢ Moved) × AnswersOf p (part_of a)
 
 -- so it is of the frames that the part runs
 abbrev pub Plans : Program → Part → Plan → Type 0
-Plans p a plan = (frames : List Frame) × (stand_in a.stand ≡ running frames) × PlansOf p a frames plan
+Plans p a plan = (frames : List Frame) × (stand_in a.stand ≡ running frames)
+    × PlansOf p a frames plan
 
 -- that is what the part's frames do next
 abbrev pub IsNextOf : Part → Next → Type 0

@@ -20,7 +20,8 @@ use Rattle.sf_part.specs.Timed.{noted}
 
 -- each slot of the content is one of those
 abbrev pub HasSpots : List Spot → Content → Type 0
-HasSpots spots k = (slot : Slot) → is_some (store_of k.store slot) ≡ true → is_among spots slot ≡ true
+HasSpots spots k = (slot : Slot) → is_some (store_of k.store slot) ≡ true
+    → is_among spots slot ≡ true
 
 -- what is shared has a content's cells and slots beside its own
 pub record TakesIn (before : Shared) (k : Content) (after : Shared) : Type 0 where
@@ -33,7 +34,8 @@ pub record IsEntered (number : ℕ) (k : Content) (a b : Part) : Type 0 where
   pub task : b.task ≡ a.task
   pub stand : stand_in b.stand ≡ running (moved (GoOn Into) (frames_in (stand_in a.stand)))
   pub heap : Splits (common_of b.shared).heap (common_of a.shared).heap (content_of k).content.heap
-  pub store : Splits (common_of b.shared).store (common_of a.shared).store (content_of k).content.store
+  pub store : Splits (common_of b.shared).store (common_of a.shared).store
+      (content_of k).content.store
   pub held : (common_of b.shared).held
       ≡ (λ q. cond (q.0 == k.resource.0) (Some a.task) ((common_of a.shared).held q))
   pub supply : numbers b.supply ≡ drop 1 (numbers a.supply)

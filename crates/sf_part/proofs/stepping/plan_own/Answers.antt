@@ -13,38 +13,47 @@ use Rattle.sf_part.proofs.stepping.plan_own.Goals as goal
 
 pub plan_command-requires : goal.plan_command-requires
 plan_command-requires c = own-ready (program_of c.args.p.now) c.args.p.now.formed c.args.part.now
-    c.args.part.now.kept c.requires.of c.next-number.result c.next-number.ensures (fixed_of c.args.frame.now)
+    c.args.part.now.kept c.requires.of c.next-number.result c.next-number.ensures
+    (fixed_of c.args.frame.now)
     c.requires.next.2.0 (command_of c.args.command.now) c.requires.next.2.1 c.in_default.ensures
     (c.requires.next.1 ∙ ap running c.requires.next.2.2)
 
 pub missed-requires : goal.missed-requires
 missed-requires c =
     let planned = rw c.in-Refused.is at
-    (c.in_ok-effect.ensures.plans (cell_of c.args.part.now.blank) c.requires.next.2.0 c.requires.next.2.1) in
+    (c.in_ok-effect.ensures.plans (cell_of c.args.part.now.blank) c.requires.next.2.0
+    c.requires.next.2.1) in
     let m = own-missing (program_of c.args.p.now) c.args.p.now.formed c.args.part.now
-    c.args.part.now.kept c.requires.of c.next-number.result c.next-number.ensures (fixed_of c.args.frame.now)
+    c.args.part.now.kept c.requires.of c.next-number.result c.next-number.ensures
+    (fixed_of c.args.frame.now)
     c.requires.next.2.0 (command_of c.args.command.now) c.requires.next.2.1 c.in_default.ensures
     (c.requires.next.1 ∙ ap running c.requires.next.2.2) c.in-Refused.why planned in (m.root, m.is)
 
 pub unreachable-requires : goal.unreachable-requires
 unreachable-requires c =
     let planned = rw c.in-Forks.is at
-    (c.in_ok-effect.ensures.plans (cell_of c.args.part.now.blank) c.requires.next.2.0 c.requires.next.2.1) in
+    (c.in_ok-effect.ensures.plans (cell_of c.args.part.now.blank) c.requires.next.2.0
+    c.requires.next.2.1) in
     own-runs (program_of c.args.p.now) c.args.p.now.formed c.args.part.now
-    c.args.part.now.kept c.requires.of c.next-number.result c.next-number.ensures (fixed_of c.args.frame.now)
+    c.args.part.now.kept c.requires.of c.next-number.result c.next-number.ensures
+    (fixed_of c.args.frame.now)
     c.requires.next.2.0 (command_of c.args.command.now) c.requires.next.2.1 c.in_default.ensures
-    (c.requires.next.1 ∙ ap running c.requires.next.2.2) c.in-Forks.field-0 c.in-Forks.field-1 planned
+    (c.requires.next.1 ∙ ap running c.requires.next.2.2) c.in-Forks.field-0 c.in-Forks.field-1
+    planned
 
 pub returns-in-Acts : goal.returns-in-Acts
 returns-in-Acts c =
     let planned = rw c.in-Acts.is at
-    (c.in_ok-effect.ensures.plans (cell_of c.args.part.now.blank) c.requires.next.2.0 c.requires.next.2.1) in (
-      frames_with (fixed_of c.args.frame.now) (command (command_of c.args.command.now) ∷ c.requires.next.2.1)
+    (c.in_ok-effect.ensures.plans (cell_of c.args.part.now.blank) c.requires.next.2.0
+    c.requires.next.2.1) in (
+      frames_with (fixed_of c.args.frame.now) (command (command_of c.args.command.now)
+          ∷ c.requires.next.2.1)
           c.requires.next.2.0,
       c.requires.next.1 ∙ ap running c.requires.next.2.2,
       own-acts (program_of c.args.p.now) c.args.p.now.formed c.args.part.now
           c.args.part.now.kept c.requires.of c.next-number.result c.next-number.ensures
-          (fixed_of c.args.frame.now) c.requires.next.2.0 (command_of c.args.command.now) c.requires.next.2.1
+          (fixed_of c.args.frame.now) c.requires.next.2.0 (command_of c.args.command.now)
+          c.requires.next.2.1
           c.in_default.ensures (c.requires.next.1 ∙ ap running c.requires.next.2.2) c.in-Acts.effect
           c.in-Acts.change planned,
     )
@@ -54,9 +63,11 @@ returns-in-Refused c =
     let frames = frames_with (fixed_of c.args.frame.now)
     (command (command_of c.args.command.now) ∷ c.requires.next.2.1) c.requires.next.2.0 in
     let planned = rw c.in-Refused.is at
-    (c.in_ok-effect.ensures.plans (cell_of c.args.part.now.blank) c.requires.next.2.0 c.requires.next.2.1) in
+    (c.in_ok-effect.ensures.plans (cell_of c.args.part.now.blank) c.requires.next.2.0
+    c.requires.next.2.1) in
     let m = own-missing (program_of c.args.p.now) c.args.p.now.formed c.args.part.now
-    c.args.part.now.kept c.requires.of c.next-number.result c.next-number.ensures (fixed_of c.args.frame.now)
+    c.args.part.now.kept c.requires.of c.next-number.result c.next-number.ensures
+    (fixed_of c.args.frame.now)
     c.requires.next.2.0 (command_of c.args.command.now) c.requires.next.2.1 c.in_default.ensures
     (c.requires.next.1 ∙ ap running c.requires.next.2.2) c.in-Refused.why planned in (
       frames,
@@ -65,6 +76,8 @@ returns-in-Refused c =
           (sym (c.missed.ensures m.root m.is))
           (own-absent (program_of c.args.p.now) c.args.p.now.formed c.args.part.now
           c.args.part.now.kept c.requires.of c.next-number.result c.next-number.ensures
-          (fixed_of c.args.frame.now) c.requires.next.2.0 (command_of c.args.command.now) c.requires.next.2.1
-          c.in_default.ensures (c.requires.next.1 ∙ ap running c.requires.next.2.2) c.in-Refused.why m),
+          (fixed_of c.args.frame.now) c.requires.next.2.0 (command_of c.args.command.now)
+          c.requires.next.2.1
+          c.in_default.ensures (c.requires.next.1 ∙ ap running c.requires.next.2.2) c.in-Refused.why
+          m),
     )

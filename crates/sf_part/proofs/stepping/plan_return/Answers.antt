@@ -14,6 +14,7 @@ returns c =
       frames_with c.requires.next.2.0 [] c.requires.next.2.1,
       stand,
       return-acts (program_of c.args.p.now) c.args.part.now c.requires.next.2.0 c.requires.next.2.1
-          c.requires.next.2.4 init c.args.part.now.kept c.requires.of c.next.result c.next.ensures c.args.room
+          c.requires.next.2.4 init c.args.part.now.kept c.requires.of c.next.result c.next.ensures
+          c.args.room
           c.requires.next.2.3 stand,
     )

@@ -23,14 +23,18 @@ entered-requires-clause-runs c =
 pub returns-clause-ok : goal.returns-clause-ok
 returns-clause-ok c = on-ok c.entered.result c.entered.ensures.ok (λ h. (
   own_event c.args.self.now h.0,
-  made-enters (program_of c.args.p.now) c.args.p.now.formed c.args.self.now c.entered.new.self c.args.content h.0
+  made-enters (program_of c.args.p.now) c.args.p.now.formed c.args.self.now c.entered.new.self
+      c.args.content h.0
       c.requires.of c.requires.content c.requires.may h.1 h.2
       (made-standing c.args.self.now c.args.content c.requires.may),
 ))
 
 pub returns-clause-of : goal.returns-clause-of
-returns-clause-of c = enter-of (program_of c.args.p.now) c.args.p.now.formed c.args.self.now c.entered.new.self
-    c.args.content c.requires.of c.requires.content c.requires.may c.entered.result c.entered.ensures.ok
+returns-clause-of c = enter-of (program_of c.args.p.now) c.args.p.now.formed c.args.self.now
+    c.entered.new.self
+    c.args.content c.requires.of c.requires.content c.requires.may c.entered.result
+    c.entered.ensures.ok
     c.entered.ensures.err c.entered.ensures.blank
     (c.entered.ensures.width (length (program_of c.args.p.now).fields)
-    (ap length c.requires.of.blank ∙ length-replicate _ nil) c.requires.content.wide c.requires.of.wide)
+    (ap length c.requires.of.blank ∙ length-replicate _ nil) c.requires.content.wide
+    c.requires.of.wide)

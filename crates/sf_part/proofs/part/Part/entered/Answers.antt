@@ -23,9 +23,11 @@ use Rattle.sf_part.proofs.part.Part.entered.Goals as goal
 pub invariant_of-self : goal.invariant_of-self
 invariant_of-self c =
     let common : common_of c.apply.new.shared ≡ common_of c.args.self.now.shared =
-    same-common (common_of c.apply.new.shared) (common_of c.args.self.now.shared) c.in-Err.ensures.err in
+    same-common (common_of c.apply.new.shared) (common_of c.args.self.now.shared)
+    c.in-Err.ensures.err in
     record {
-      kept = subst Keeps (sym (same-part c.args.self.now.task c.args.self.now.stand c.args.self.now.stand
+      kept = subst Keeps
+          (sym (same-part c.args.self.now.task c.args.self.now.stand c.args.self.now.stand
           c.args.self.now.shared c.apply.new.shared c.args.self.now.supply c.args.self.now.clock
           c.args.self.now.keeps c.args.self.now.log.items c.args.self.now.given refl common))
           c.args.self.now.kept;
@@ -35,24 +37,30 @@ invariant_of-self c =
 
 pub returns-in-Err-clause-err : goal.returns-in-Err-clause-err
 returns-in-Err-clause-err c =
-    same-part c.args.self.now.task c.args.self.now.stand c.args.self.now.stand c.args.self.now.shared
+    same-part c.args.self.now.task c.args.self.now.stand c.args.self.now.stand
+    c.args.self.now.shared
     c.apply.new.shared c.args.self.now.supply c.args.self.now.clock c.args.self.now.keeps
     c.args.self.now.log.items c.args.self.now.given refl
-    (same-common (common_of c.apply.new.shared) (common_of c.args.self.now.shared) c.in-Err.ensures.err)
+    (same-common (common_of c.apply.new.shared) (common_of c.args.self.now.shared)
+    c.in-Err.ensures.err)
 
 pub invariant_of-self-in-Err-take_in : goal.invariant_of-self-in-Err-take_in
 invariant_of-self-in-Err-take_in c =
     let free : (common_of c.args.self.now.shared).held c.args.content.resource ≡ None =
-    is_some-false (held_of c.args.self.now.shared.held c.args.content.resource) c.requires.may.outside in
+    is_some-false (held_of c.args.self.now.shared.held c.args.content.resource)
+    c.requires.may.outside in
     let same = same-common (common_of c.take_in.new.shared) (common_of c.apply.new.shared)
     c.in-Err-take_in.ensures.err in
     let common : common_of c.edit.new.shared ≡ common_of c.args.self.now.shared =
     taking-freed (common_of c.args.self.now.shared) (common_of c.take_in.new.shared)
     (common_of c.edit.new.shared) c.args.content.resource c.args.self.now.task free
-    (subst (λ (z : Common). IsSameCommon z (set_holder c.args.content.resource (Some c.args.self.now.task) (common_of c.args.self.now.shared)))
+    (subst (λ (z : Common).
+    IsSameCommon z (set_holder c.args.content.resource (Some c.args.self.now.task)
+    (common_of c.args.self.now.shared)))
     (sym same) c.in_default.ensures.ok) c.edit.ensures.done in
     record {
-      kept = subst Keeps (sym (same-part c.args.self.now.task c.args.self.now.stand c.args.self.now.stand
+      kept = subst Keeps
+          (sym (same-part c.args.self.now.task c.args.self.now.stand c.args.self.now.stand
           c.args.self.now.shared c.edit.new.shared c.args.self.now.supply c.args.self.now.clock
           c.args.self.now.keeps c.args.self.now.log.items c.args.self.now.given refl common))
           c.args.self.now.kept;
@@ -63,15 +71,19 @@ invariant_of-self-in-Err-take_in c =
 pub returns-in-Err-take_in-clause-err : goal.returns-in-Err-take_in-clause-err
 returns-in-Err-take_in-clause-err c =
     let free : (common_of c.args.self.now.shared).held c.args.content.resource ≡ None =
-    is_some-false (held_of c.args.self.now.shared.held c.args.content.resource) c.requires.may.outside in
+    is_some-false (held_of c.args.self.now.shared.held c.args.content.resource)
+    c.requires.may.outside in
     let same = same-common (common_of c.take_in.new.shared) (common_of c.apply.new.shared)
     c.in-Err-take_in.ensures.err in
     let common : common_of c.edit.new.shared ≡ common_of c.args.self.now.shared =
     taking-freed (common_of c.args.self.now.shared) (common_of c.take_in.new.shared)
     (common_of c.edit.new.shared) c.args.content.resource c.args.self.now.task free
-    (subst (λ (z : Common). IsSameCommon z (set_holder c.args.content.resource (Some c.args.self.now.task) (common_of c.args.self.now.shared)))
+    (subst (λ (z : Common).
+    IsSameCommon z (set_holder c.args.content.resource (Some c.args.self.now.task)
+    (common_of c.args.self.now.shared)))
     (sym same) c.in_default.ensures.ok) c.edit.ensures.done in
-    same-part c.args.self.now.task c.args.self.now.stand c.args.self.now.stand c.args.self.now.shared
+    same-part c.args.self.now.task c.args.self.now.stand c.args.self.now.stand
+    c.args.self.now.shared
     c.edit.new.shared c.args.self.now.supply c.args.self.now.clock c.args.self.now.keeps
     c.args.self.now.log.items c.args.self.now.given refl common
 
@@ -81,7 +93,8 @@ invariant_of-self-2 c =
     (common_of c.take_in.new.shared) (content_of c.args.content).content c.args.content.resource
     c.args.self.now.task c.in_default.ensures.ok c.in_default-take_in.ensures.ok.heap
     c.in_default-take_in.ensures.ok.store c.in_default-take_in.ensures.ok.held in
-    let time : c.max.result + length (numbers c.args.self.now.supply) ≤ STEPS = rw c.max.ensures c.requires.may.time in
+    let time : c.max.result + length (numbers c.args.self.now.supply) ≤ STEPS =
+    rw c.max.ensures c.requires.may.time in
     record {
       kept = performed-keeps (own_event c.args.self.now c.next-number.result) c.max.result
           (part_of c.args.self.now)
@@ -89,7 +102,8 @@ invariant_of-self-2 c =
           (c.max.result + 1) c.args.self.now.keeps c.note.new.log.items c.args.self.now.given)
           c.args.self.now.kept
           (c.next-number.ensures ∙ ap (λ z. c.next-number.result ∷ z) (sym c.spend.ensures))
-          (λ n there other h. taking-unmade (common_of c.args.self.now.shared) (common_of c.take_in.new.shared)
+          (λ n there other h. taking-unmade (common_of c.args.self.now.shared)
+          (common_of c.take_in.new.shared)
           (content_of c.args.content).content c.args.content.resource c.args.self.now.task n taken h
           (c.requires.may.apart.units n there))
           (subst (λ z. IsWaiting z → ⊥) (sym c.changed.ensures) (λ h. h)) (omega arith) time
@@ -109,7 +123,8 @@ returns-clause-ok c =
       record {
         task = refl;
         stand = c.changed.ensures
-            ∙ ap (λ z. running (moved (GoOn Into) (frames_in (stand_in z)))) c.replace-stand.ensures.value;
+            ∙ ap (λ z. running (moved (GoOn Into) (frames_in (stand_in z))))
+            c.replace-stand.ensures.value;
         heap = taken.heap;
         store = taken.store;
         held = taken.held;
@@ -124,7 +139,8 @@ returns-clause-ok c =
 
 pub returns-in-Err-take_in-clause-width : goal.returns-in-Err-take_in-clause-width
 returns-in-Err-take_in-clause-width c = λ count blank content wide.
-    c.edit.ensures.width count (c.in-Err-take_in.ensures.width count content (c.in_default.ensures.width count blank wide))
+    c.edit.ensures.width count
+    (c.in-Err-take_in.ensures.width count content (c.in_default.ensures.width count blank wide))
 
 pub returns-clause-width : goal.returns-clause-width
 returns-clause-width c = λ count blank content wide.

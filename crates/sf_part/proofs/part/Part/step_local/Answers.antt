@@ -11,7 +11,8 @@ perform-requires-clause-runs c =
 pub perform-requires-clause-next : goal.perform-requires-clause-next
 perform-requires-clause-next c =
     let plan = rw c.in-Acts.is at c.in_ok-answer.ensures in
-    made-next (program_of c.args.p.now) c.args.self.now c.args.self.now c.in-Acts.number c.in-Acts.effect
+    made-next (program_of c.args.p.now) c.args.self.now c.args.self.now c.in-Acts.number
+    c.in-Acts.effect
     c.in-Acts.change plan.0 plan.1 plan.2.1
 
 pub returns-in_ok-perform-in-Acts-clause-moved : goal.returns-in_ok-perform-in-Acts-clause-moved
@@ -19,12 +20,14 @@ returns-in_ok-perform-in-Acts-clause-moved c = λ moved.
     let plan = rw c.in-Acts.is at c.in_ok-answer.ensures in (
       own_event c.args.self.now c.in-Acts.number,
       made-private (program_of c.args.p.now) c.args.self.now c.perform.new.self c.in-Acts.number
-          c.in-Acts.effect c.in-Acts.change plan.0 plan.1 plan.2.1 c.in_ok-perform-in-Acts.ensures.ok,
+          c.in-Acts.effect c.in-Acts.change plan.0 plan.1 plan.2.1
+          c.in_ok-perform-in-Acts.ensures.ok,
     )
 
 pub returns-in_ok-perform-in-Acts-clause-of : goal.returns-in_ok-perform-in-Acts-clause-of
 returns-in_ok-perform-in-Acts-clause-of c =
     let plan = rw c.in-Acts.is at c.in_ok-answer.ensures in
     made-of (program_of c.args.p.now) c.args.self.now c.perform.new.self c.in-Acts.number
-    c.in-Acts.effect c.in-Acts.change plan.0 plan.1 plan.2.1 c.in_ok-perform-in-Acts.ensures.ok c.requires.of
+    c.in-Acts.effect c.in-Acts.change plan.0 plan.1 plan.2.1 c.in_ok-perform-in-Acts.ensures.ok
+    c.requires.of
     c.in_ok-perform-in-Acts.ensures.width
