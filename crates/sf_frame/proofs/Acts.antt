@@ -17,16 +17,36 @@ use Rattle.sf_core.specs.Assertions.Sat.{IsTrueOf}
 use Rattle.sf_core.specs.Machine.Bad.{IsAbsent}
 use Rattle.sf_core.specs.Machine.Config.{Fixed, Common, evaluate}
 use Rattle.sf_core.specs.Machine.Step.{Event, set_slot, set_cell}
-use Rattle.sf_core.specs.Program.Syntax.{Block}
+use Rattle.sf_core.specs.Program.Syntax.{Block, Command}
 use Rattle.sf_heap.specs.Cells.{Cells, FieldValues, cell_of, heap_of}
-use Rattle.sf_frame.specs.declared.act.Act.TheVariants.{Edits, Makes, Enters, Refused}
+use Rattle.sf_frame.specs.declared.act.Act.{Act}
+use Rattle.sf_frame.specs.declared.act.Act.TheVariants.{Edits, Makes, Enters, Calls, Forks, Refused}
 use Rattle.sf_frame.specs.declared.effect.Edit.TheVariants.{Nothing, Set, Put, Remove}
 use Rattle.sf_frame.specs.declared.refusal.Refusal.TheVariants.{Absent, Waiting, Stale}
 use Rattle.sf_frame.specs.declared.frame.Way.TheVariants.{Past, Into, Else}
 use Rattle.sf_frame.specs.declared.spot.Spot.{Spot}
 use Rattle.sf_frame.specs.Refusals.{FindsNone}
-use Rattle.sf_frame.specs.Checked.Acts.{IsCellAt, IsCellOf, ActsAssign, ActsDispose, ActsIf, ActsLookUp, ActsMutate, ActsNew, ActsWhile, ActsWith}
+use Rattle.sf_frame.specs.Checked.Acts.{IsCellAt, IsCellOf, ActsAssign, ActsDispose, ActsIf, ActsLookUp, ActsMutate, ActsNew, ActsWhile, ActsWith, FitsAct, IsEdit}
+use Rattle.sf_frame.specs.Checked.Plans.{TakesRoom}
 use Rattle.sf_frame.specs.Spots.{slot_of}
+
+-- an edit takes no room
+pub fits_edit : (one : Command) (act : Act) → IsEdit act → FitsAct one act
+fits_edit one (Edits edit way) e = tt
+fits_edit one (Makes spot) e = absurd e
+fits_edit one (Enters r) e = absurd e
+fits_edit one (Calls c) e = tt
+fits_edit one (Forks c d) e = tt
+fits_edit one (Refused why) e = tt
+
+-- a command whose event may take room may do anything
+pub fits_room : (one : Command) (act : Act) → TakesRoom one → FitsAct one act
+fits_room one (Edits edit way) t = tt
+fits_room one (Makes spot) t = t
+fits_room one (Enters r) t = t
+fits_room one (Calls c) t = tt
+fits_room one (Forks c d) t = tt
+fits_room one (Refused why) t = tt
 
 -- `x = E`
 pub act_assign : (s : Common) (f : Fixed) (x : Occurrence) (e : Expr) (spot : Spot) (v : Value)

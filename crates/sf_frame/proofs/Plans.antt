@@ -1,6 +1,6 @@
 -- What the code plans for the event of a command.
 -- Names: `plan_KIND` for each kind of command, `refuse_KIND` where its event is none, `room_LAW` of rooms that come up.
-use Rattle.std.specs.Prelude.{◌≡◌, ℕ, ◌+◌, ◌*◌, ◌-◌, ◌<◌, ◌≤◌, Bool, true, false, cond, get_or, List, [], ◌∷◌, length, map, Some, None, Result, Ok, Err, OnErr}
+use Rattle.std.specs.Prelude.{◌≡◌, ℕ, ◌+◌, ◌*◌, ◌-◌, ◌<◌, ◌≤◌, Bool, true, false, cond, get_or, List, [], ◌∷◌, length, map, Some, None, Result, Ok, Err, IfOk, OnErr}
 use Rattle.std.specs.List.{slice_get}
 use Rattle.std.specs.Option.{option_map}
 use Rattle.std.proofs.Common.{true≢false, sym, ap, ◌∙◌, refl, inl, inr, arith}
@@ -11,22 +11,34 @@ use Rattle.sf_base.specs.declared.value.Value.TheVariants.{Nil as nil}
 use Rattle.sf_base.specs.HeapStore.{Slot, shared, own, Store}
 use Rattle.sf_core.specs.Machine.Config.{Room, in_room, Fixed, runs, waits, Common}
 use Rattle.sf_core.specs.Machine.Step.{Event, open_room, arguments, callee_frame, index_of, procedure_at, room_count, room_for}
-use Rattle.sf_core.specs.Program.Syntax.{Call, Procedure, Program}
+use Rattle.sf_core.specs.Program.Syntax.{Call, Command, Procedure, Program}
 use Rattle.sf_frame.specs.declared.effect.Effect.TheVariants.{Open}
 use Rattle.sf_frame.specs.declared.effect.Opening.{Opening}
 use Rattle.sf_frame.specs.declared.refusal.Refusal.TheVariants.{TooDeep}
 use Rattle.sf_frame.specs.declared.frame.Frame.{Frame as CodeFrame}
 use Rattle.sf_frame.specs.declared.frame.Room.{Room as CodeRoom}
+use Rattle.sf_frame.specs.declared.plan.Plan.{Plan}
 use Rattle.sf_frame.specs.declared.plan.Plan.TheVariants.{Acts, Forks, Refused}
 use Rattle.sf_frame.specs.declared.stack.Change.TheVariants.{Call as calls}
 use Rattle.sf_frame.specs.Checked.Effects.{opened, opened_store, IsClearStore}
-use Rattle.sf_frame.specs.Checked.Plans.{PlansCall, PlansFork}
+use Rattle.sf_frame.specs.Checked.Plans.{FitsPlan, PlansCall, PlansFork, TakesRoom}
 use Rattle.sf_frame.specs.Frames.{frame_of, room_of}
 
 -- what holds anyway holds of a refusal
 pub on_err : {A E P : Type 0} (r : Result A E) → P → OnErr r P
 on_err (Ok x) h = tt
 on_err (Err e) h = h
+
+-- a command whose event may take room may have any plan
+fits_any : (one : Command) (plan : Plan) → TakesRoom one → FitsPlan one plan
+fits_any one (Acts effect change) t = λ h. t
+fits_any one (Forks left right) t = tt
+fits_any one (Refused why) t = tt
+
+pub ok_fits : {E : Type 0} (one : Command) (r : Result Plan E) → TakesRoom one
+    → IfOk r (FitsPlan one)
+ok_fits one (Ok plan) t = fits_any one plan t
+ok_fits one (Err e) t = tt
 
 -- a procedure of that number is there
 pub procedure_there : {A : Type 0} (v : A → Procedure) (xs : List A) (k : ℕ) → k < length xs

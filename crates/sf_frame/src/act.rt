@@ -9,7 +9,7 @@ ghost use Rattle.sf_core.specs.Program.View.{command_of};
 ghost use Rattle.sf_heap.specs.Cells.{heap_of};
 ghost use Rattle.sf_frame.specs.Commons.{common_of};
 ghost use Rattle.sf_frame.specs.Stamps.{event_of};
-ghost use Rattle.sf_frame.specs.Checked.Acts.{ActsOf, ActsAssign, ActsDispose, ActsIf, ActsLookUp, ActsMutate, ActsNew, ActsWhile, ActsWith, IsCellAt, IsCellOf};
+ghost use Rattle.sf_frame.specs.Checked.Acts.{ActsOf, ActsAssign, ActsDispose, ActsIf, ActsLookUp, ActsMutate, ActsNew, ActsWhile, ActsWith, FitsAct, IsCellAt, IsCellOf, IsEdit};
 ghost use Rattle.sf_frame.specs.Checked.Plans.{SetsField};
 ghost use Rattle.sf_frame.specs.Stores.{store_of};
 ghost use Rattle.sf_frame.specs.Frames.{fixed_of};
@@ -42,7 +42,8 @@ pub enum Act<'p> {
     Refused(Refusal),
 }
 
-/// What a command does that comes next in a frame. It wants no memory.
+/// What a command does that comes next in a frame. It wants no memory. More than an edit comes only
+/// of a command that makes a cell, calls a procedure or enters a region.
 pub fn act_of<'p>(
     shared: &Shared,
     event: &Stamp,
@@ -52,9 +53,10 @@ pub fn act_of<'p>(
     requires { (slot : Slot) → CommandWrites (fixed_of frame.now).slots
         (store_of shared.now.store) (command_of command.now) (variable slot)
         → is_some (store_of shared.now.store slot) ≡ true }
-    ensures { (p : P) → SetsField p (command_of command.now) → (cell : C) → ActsOf p
+    ensures acts { (p : P) → SetsField p (command_of command.now) → (cell : C) → ActsOf p
         (event_of event.now cell) (common_of shared.now) (fixed_of frame.now)
         (command_of command.now) result }
+    ensures room { FitsAct (command_of command.now) result }
 {
     match command {
         Command::Assign(_, x, e) => assign(shared, frame, *x, *e),
@@ -73,7 +75,8 @@ pub fn act_of<'p>(
 /// `x = E`.
 fn assign<'p>(shared: &Shared, frame: &Frame<'p>, x: Occurrence, e: Expr) -> Act<'p>
     requires { is_some (store_of shared.now.store ((fixed_of frame.now).slots x.var)) ≡ true }
-    ensures { ActsAssign (common_of shared.now) (fixed_of frame.now) x e result }
+    ensures acts { ActsAssign (common_of shared.now) (fixed_of frame.now) x e result }
+    ensures edits { IsEdit result }
 {
     let value = evaluate(&shared.store, frame, e);
     Act::Edits(Edit::Set(frame.spot(x.var), value), Way::Past)
@@ -88,7 +91,8 @@ fn look_up<'p>(
     field: FieldId,
 ) -> Act<'p>
     requires { is_some (store_of shared.now.store ((fixed_of frame.now).slots x.var)) ≡ true }
-    ensures { ActsLookUp (common_of shared.now) (fixed_of frame.now) x e field result }
+    ensures acts { ActsLookUp (common_of shared.now) (fixed_of frame.now) x e field result }
+    ensures edits { IsEdit result }
 {
     let root = evaluate(&shared.store, frame, e);
     match cell_of(&shared.heap, root) {
@@ -128,7 +132,8 @@ fn cell_at(heap: &Heap, root: Value) -> Option<u64>
 
 /// `E->f = F`.
 fn mutate<'p>(shared: &Shared, frame: &Frame<'p>, e: Expr, field: FieldId, v: Expr) -> Act<'p>
-    ensures { ActsMutate (common_of shared.now) (fixed_of frame.now) e field v result }
+    ensures acts { ActsMutate (common_of shared.now) (fixed_of frame.now) e field v result }
+    ensures edits { IsEdit result }
 {
     let root = evaluate(&shared.store, frame, e);
     match cell_at(&shared.heap, root) {
@@ -154,7 +159,8 @@ fn make<'p>(shared: &Shared, event: &Stamp, frame: &Frame<'p>, x: Occurrence) ->
 
 /// `dispose(E)`.
 fn dispose<'p>(shared: &Shared, frame: &Frame<'p>, e: Expr) -> Act<'p>
-    ensures { ActsDispose (common_of shared.now) (fixed_of frame.now) e result }
+    ensures acts { ActsDispose (common_of shared.now) (fixed_of frame.now) e result }
+    ensures edits { IsEdit result }
 {
     let root = evaluate(&shared.store, frame, e);
     match cell_at(&shared.heap, root) {
@@ -165,8 +171,9 @@ fn dispose<'p>(shared: &Shared, frame: &Frame<'p>, e: Expr) -> Act<'p>
 
 /// `if (B) C else D`.
 fn choose<'p>(shared: &Shared, frame: &Frame<'p>, test: &Test<Expr>) -> Act<'p>
-    ensures { (this that : Block) → ActsIf (common_of shared.now) (fixed_of frame.now) test.now
+    ensures acts { (this that : Block) → ActsIf (common_of shared.now) (fixed_of frame.now) test.now
         this that result }
+    ensures edits { IsEdit result }
 {
     if is_true(&shared.store, frame, test) {
         return Act::Edits(Edit::Nothing, Way::Into);
@@ -176,8 +183,9 @@ fn choose<'p>(shared: &Shared, frame: &Frame<'p>, test: &Test<Expr>) -> Act<'p>
 
 /// `while (B) C`.
 fn repeat<'p>(shared: &Shared, frame: &Frame<'p>, test: &Test<Expr>) -> Act<'p>
-    ensures { (body : Block) → ActsWhile (common_of shared.now) (fixed_of frame.now) test.now body
+    ensures acts { (body : Block) → ActsWhile (common_of shared.now) (fixed_of frame.now) test.now body
         result }
+    ensures edits { IsEdit result }
 {
     if is_true(&shared.store, frame, test) {
         return Act::Edits(Edit::Nothing, Way::Into);

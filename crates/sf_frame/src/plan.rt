@@ -6,7 +6,7 @@ ghost use Rattle.sf_core.specs.Program.ProgramView.{program_of};
 ghost use Rattle.sf_core.specs.Program.View.{call_of, command_of};
 ghost use Rattle.sf_frame.specs.Commons.{common_of};
 ghost use Rattle.sf_frame.specs.Stamps.{event_of};
-ghost use Rattle.sf_frame.specs.Checked.Plans.{CallsSome, IsReady, PlansCall, PlansFork, PlansStamp};
+ghost use Rattle.sf_frame.specs.Checked.Plans.{CallsSome, FitsPlan, IsReady, PlansCall, PlansFork, PlansStamp};
 ghost use Rattle.sf_frame.specs.Stores.{store_of};
 ghost use Rattle.sf_frame.specs.Frames.{fixed_of};
 
@@ -35,7 +35,8 @@ pub enum Plan<'p> {
 }
 
 /// What the event of a command that comes next in a frame would make. An `Err` comes only where the
-/// command calls a procedure: it says that memory ran out.
+/// command calls a procedure: it says that memory ran out. More than an edit, or a frame more, comes
+/// only of a command that makes a cell, enters a region or calls a procedure.
 pub fn plan_command<'p>(
     p: &'p Program,
     shared: &Shared,
@@ -48,6 +49,7 @@ pub fn plan_command<'p>(
     ensures plans { IfOk result (PlansStamp (program_of p.now) event.now (common_of shared.now)
         (fixed_of frame.now) (command_of command.now)) }
     ensures memory { OnErr result (CallsSome (command_of command.now)) }
+    ensures room { IfOk result (FitsPlan (command_of command.now)) }
 {
     match act_of(shared, event, frame, command) {
         Act::Edits(edit, way) => Ok(Plan::Acts(Effect::Edits(edit), Change::GoOn(way))),

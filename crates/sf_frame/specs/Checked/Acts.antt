@@ -21,7 +21,7 @@ use Rattle.sf_frame.specs.declared.effect.Effect.TheVariants.{Edits as edits, Ma
 use Rattle.sf_frame.specs.declared.frame.Way.TheVariants.{Past, Into}
 use Rattle.sf_frame.specs.declared.plan.Plan.TheVariants.{Acts as acts, Refused as refused}
 use Rattle.sf_frame.specs.declared.stack.Change.TheVariants.{GoOn as go_on}
-use Rattle.sf_frame.specs.Checked.Plans.{Plans}
+use Rattle.sf_frame.specs.Checked.Plans.{Plans, TakesRoom}
 
 -- the act is what a command's event does, whatever else the task has to do, or says why there is none
 abbrev pub ActsOf : Program → Event → Common → Fixed → Command → Act → Type 0
@@ -31,6 +31,20 @@ ActsOf p ev s f one (Enters r) = Plans p ev s f one (acts (Hold r) (go_on Into))
 ActsOf p ev s f one (Calls c) = (place : Place) × (one ≡ call place (call_of c.now))
 ActsOf p ev s f one (Forks c d) = (place : Place) × (one ≡ fork place (call_of c.now) (call_of d.now))
 ActsOf p ev s f one (Refused why) = Plans p ev s f one (refused why)
+
+-- what is shared is edited, or why there is none
+abbrev pub IsEdit : Act → Type 0
+IsEdit (Makes spot) = ⊥
+IsEdit (Enters r) = ⊥
+IsEdit (Calls c) = ⊥
+IsEdit (Forks c d) = ⊥
+IsEdit _ = Unit {0}
+
+-- more than an edit comes only of a command whose event may take room
+abbrev pub FitsAct : Command → Act → Type 0
+FitsAct one (Makes spot) = TakesRoom one
+FitsAct one (Enters r) = TakesRoom one
+FitsAct one _ = Unit {0}
 
 -- of a command that speaks of no procedure, by an event that makes no cell
 abbrev pub ActsOfEach : Common → Fixed → (Place → Command) → Act → Type 0

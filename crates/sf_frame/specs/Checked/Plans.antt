@@ -1,12 +1,12 @@
 -- What the code plans for the event of a command.
 -- Ordinary: an effect on what is shared and a change of the frames, or why there is none.
-use Rattle.std.specs.Prelude.{◌≡◌, ℕ, ◌<◌, true, length, List, [], ◌∷◌, None, is_some}
+use Rattle.std.specs.Prelude.{◌≡◌, ◌⊎◌, ℕ, ◌<◌, true, length, List, [], ◌∷◌, None, is_some}
 use Rattle.sf_base.specs.declared.place.Place.{Place}
 use Rattle.sf_base.specs.HeapStore.{Cell, Slot, own}
 use Rattle.sf_core.specs.Machine.Config.{Item, command, Fixed, Frame, runs, waits, Common}
 use Rattle.sf_core.specs.Machine.Enabled.{variable, CommandWrites}
 use Rattle.sf_core.specs.Machine.Step.{Event, Does}
-use Rattle.sf_core.specs.Program.Syntax.{Call, Command, mutate, call, fork, Program}
+use Rattle.sf_core.specs.Program.Syntax.{Call, Command, mutate, new, call, fork, with, Program}
 use Rattle.sf_frame.specs.declared.effect.Effect.TheVariants.{OpenBoth}
 use Rattle.sf_frame.specs.declared.plan.Plan.{Plan}
 use Rattle.sf_frame.specs.declared.plan.Plan.TheVariants.{Acts, Forks, Refused}
@@ -14,8 +14,8 @@ use Rattle.sf_frame.specs.declared.stamp.Stamp.{Stamp}
 use Rattle.sf_frame.specs.Frames.{frame_of}
 use Rattle.sf_frame.specs.Refusals.{Refuses}
 use Rattle.sf_frame.specs.Stamps.{event_of}
-use Rattle.sf_frame.specs.Checked.Effects.{applied, EffectWithin, Suits}
-use Rattle.sf_frame.specs.Checked.Frames.{moved}
+use Rattle.sf_frame.specs.Checked.Effects.{applied, EffectWithin, IsMore, Suits}
+use Rattle.sf_frame.specs.Checked.Frames.{moved, IsCall}
 use Rattle.sf_frame.specs.Checked.Nexts.{frames_with}
 
 -- the procedures are there that the command calls
@@ -43,6 +43,19 @@ abbrev pub CallsSome : Command → Type 0
 CallsSome (call place c) = Unit {0}
 CallsSome (fork place c d) = Unit {0}
 CallsSome _ = ⊥
+
+-- the event of the command may take room: it makes a cell, enters a region or calls a procedure
+abbrev pub TakesRoom : Command → Type 0
+TakesRoom (new place x) = Unit {0}
+TakesRoom (with place r test body) = Unit {0}
+TakesRoom (call place c) = Unit {0}
+TakesRoom (fork place c d) = Unit {0}
+TakesRoom _ = ⊥
+
+-- the plan has more than an edit, or a frame more, only for such a command
+abbrev pub FitsPlan : Command → Plan → Type 0
+FitsPlan one (Acts effect change) = IsMore effect ⊎ IsCall change → TakesRoom one
+FitsPlan one _ = Unit {0}
 
 -- the plan is that of a command's event: what it makes of what is shared and of the frames is the step of the task,
 -- or at a fork also of its two children, and what it changes is there; or it says why there is no step
