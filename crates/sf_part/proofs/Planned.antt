@@ -13,14 +13,14 @@ use Rattle.sf_core.specs.Machine.Next.{does}
 use Rattle.sf_core.specs.Machine.Supplies.{has, NextTakes}
 use Rattle.sf_core.specs.Machine.Whole.{Range, running, numbers}
 use Rattle.sf_core.specs.Program.Formed.{IsFormed}
-use Rattle.sf_core.specs.Program.Syntax.{Command, Program}
+use Rattle.sf_core.specs.Program.Syntax.{Command, assign, look_up, mutate, new, dispose, if, while, call, fork, with, Program}
 use Rattle.sf_core.proofs.Machine.Frames.{goes-not_at_no_cell}
 use Rattle.sf_foot.specs.Starting.{HasWidth}
 use Rattle.sf_frame.specs.Commons.{common_of}
 use Rattle.sf_frame.specs.Checked.Effects.{EffectWithin, HasField}
 use Rattle.sf_frame.specs.Checked.Frames.{moved}
 use Rattle.sf_frame.specs.Checked.Nexts.{frames_with}
-use Rattle.sf_frame.specs.Checked.Plans.{IsReady, PlansCommand}
+use Rattle.sf_frame.specs.Checked.Plans.{CallsSome, FitsPlan, IsReady, PlansCommand, TakesRoom}
 use Rattle.sf_frame.specs.declared.calling.Callee.{Callee}
 use Rattle.sf_frame.specs.declared.effect.Effect.{Effect}
 use Rattle.sf_frame.specs.declared.effect.Edit.TheVariants.{Nothing, Set, Put, Remove, Free, Close}
@@ -29,7 +29,7 @@ use Rattle.sf_frame.specs.declared.plan.Plan.TheVariants.{Acts as acts, Forks as
 use Rattle.sf_frame.specs.declared.refusal.Refusal.{Refusal}
 use Rattle.sf_frame.specs.declared.stack.Change.{Change}
 use Rattle.sf_heap.specs.Cells.{Cells, FieldValues, cell_of}
-use Rattle.sf_part.specs.Answers.{GoesOn}
+use Rattle.sf_part.specs.Answers.{CommandNeedsRoom, GoesOn}
 use Rattle.sf_part.specs.Checked.Stepping.{PlansOf, acted, own_event}
 use Rattle.sf_part.specs.declared.local.Local.TheVariants.{Spent, Absent}
 use Rattle.sf_part.specs.declared.part.Part.{Part}
@@ -43,6 +43,32 @@ use Rattle.sf_part.proofs.Beside.{takes-at}
 use Rattle.sf_part.proofs.Owned.{Goes, command-there, goes-local}
 use Rattle.sf_part.proofs.Ready.{IsMissing, local-outside, local-refused, local-runs, local-takes, ready}
 use Rattle.sf_part.proofs.Unmade.{unmade-after, unmade-heap, unmade-store}
+
+-- a command that is the task's own affair takes room only where it makes a cell or calls
+pub local-room : (c : Command) → IsLocal c → TakesRoom c → CommandNeedsRoom c
+local-room (assign place x e) l t = t
+local-room (look_up place x e field) l t = t
+local-room (mutate place e field v) l t = t
+local-room (new place x) l t = tt
+local-room (dispose place e) l t = t
+local-room (if place test this that) l t = t
+local-room (while place test kept body) l t = t
+local-room (call place c) l t = tt
+local-room (fork place one two) l t = absurd l
+local-room (with place r test body) l t = absurd l
+
+-- so does one that calls
+pub calls-room : (c : Command) → IsLocal c → CallsSome c → CommandNeedsRoom c
+calls-room (assign place x e) l t = t
+calls-room (look_up place x e field) l t = t
+calls-room (mutate place e field v) l t = t
+calls-room (new place x) l t = absurd t
+calls-room (dispose place e) l t = t
+calls-room (if place test this that) l t = t
+calls-room (while place test kept body) l t = t
+calls-room (call place c) l t = tt
+calls-room (fork place one two) l t = absurd l
+calls-room (with place r test body) l t = absurd l
 
 -- a list of nils has nil everywhere
 nils-at : (n field : ℕ) → slice_index_or (replicate n nil) field nil ≡ nil
@@ -139,7 +165,7 @@ module _ (p : Program) (formed : IsFormed p) (a : Part) (keeps : Keeps (part_of 
 
     module _ (effect : Effect) (change : Change)
         (planned : PlansCommand p (own_event a number) (common_of a.shared) f below c rest
-        (acts effect change)) where
+        (acts effect change)) (fits : FitsPlan c (acts effect change)) where
       takes : NextTakes (own_event a number) (does f below c rest) (has (numbers a.supply))
           (has (drop 1 (numbers a.supply)))
       takes = local-takes (own_event a number) c (numbers a.supply) (drop 1 (numbers a.supply)) l
@@ -192,5 +218,6 @@ module _ (p : Program) (formed : IsFormed p) (a : Part) (keeps : Keeps (part_of 
           };
           of = subst (FramesAreOf p (acted a number effect).store) same-frames goes.of;
           regions = λ r. ap (regions p r) (sym same-frames) ∙ goes.regions r;
+          room = λ h. local-room c l (fits h);
         },
       )

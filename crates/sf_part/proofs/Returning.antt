@@ -119,5 +119,9 @@ module _ (p : Program) (a : Part) (f : Fixed) (below : List Frame)
           of = subst (FramesAreOf p (acted a number (Edits (Close room false))).store) same-frames
               goes.of;
           regions = λ r. ap (regions p r) (sym same-frames) ∙ goes.regions r;
+          room = λ h. elim h [
+            | inl more ↦ absurd more
+            | inr more ↦ absurd more
+          ];
         },
       )

@@ -9,7 +9,7 @@ use Rattle.sf_core.specs.Machine.Config.{Frame, runs, Common, evaluate}
 use Rattle.sf_core.specs.Machine.Enabled.{HasEnded}
 use Rattle.sf_core.specs.Machine.Next.{Next, does, next}
 use Rattle.sf_core.specs.Machine.Whole.{running, numbers}
-use Rattle.sf_core.specs.Program.Syntax.{Command, look_up, mutate, dispose, Program}
+use Rattle.sf_core.specs.Program.Syntax.{Command, look_up, mutate, new, dispose, call, Program}
 use Rattle.sf_part.specs.declared.local.Local.{Local}
 use Rattle.sf_part.specs.declared.local.Local.TheVariants.{Moved, AtRegion, AtExit, AtFork, AtInit, Done, Spent, Absent}
 use Rattle.sf_part.specs.Steps.{common_of, IsEntry, IsExit, IsFork, IsPrivate, IsSettling}
@@ -53,3 +53,17 @@ AnswersOf p a frames (Absent v) = (numbers a.part.supply ≢ [])
 abbrev pub Answers : Program → TimedPart → Local → Type 0
 Answers p a answer = (frames : List Frame) × (a.part.stand ≡ running frames)
     × AnswersOf p a frames answer
+
+-- what comes next makes a cell or calls a procedure: no more of a task's own affair takes room
+abbrev pub CommandNeedsRoom : Command → Type 0
+CommandNeedsRoom (new place x) = Unit {0}
+CommandNeedsRoom (call place c) = Unit {0}
+CommandNeedsRoom _ = ⊥
+
+abbrev pub NeedsRoom : Next → Type 0
+NeedsRoom (does f below c rest) = CommandNeedsRoom c
+NeedsRoom _ = ⊥
+
+-- so it is of a task of that part, which runs
+abbrev pub MayRunOut : TimedPart → Type 0
+MayRunOut a = (frames : List Frame) × (a.part.stand ≡ running frames) × NeedsRoom (next (runs frames))

@@ -1,8 +1,8 @@
 //! How a task stands.
 
-ghost use Rattle.std.specs.Prelude.{◌≡◌, OnOk};
+ghost use Rattle.std.specs.Prelude.{◌≡◌, OnErr, OnOk};
 ghost use Rattle.sf_core.specs.Machine.Whole.{running};
-ghost use Rattle.sf_frame.specs.Checked.Frames.{moved};
+ghost use Rattle.sf_frame.specs.Checked.Frames.{IsCall, moved};
 ghost use Rattle.sf_part.specs.Of.{frames_in};
 ghost use Rattle.sf_part.specs.Stands.{stand_in};
 ghost use Rattle.sf_part.specs.Checked.Standing.{HasStandRoom, Runs};
@@ -25,6 +25,7 @@ impl<'p> Stand<'p> {
     pub(crate) fn reserve(&mut self, change: &Change<'p>) -> Result<(), AllocError>
         ensures same { stand_in self.new ≡ stand_in self.old }
         ensures ok { OnOk result (HasStandRoom change.now self.new) }
+        ensures memory { OnErr result (IsCall change.now) }
     {
         match self {
             Stand::Runs(stack) => stack.reserve(change),

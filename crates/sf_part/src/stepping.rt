@@ -1,13 +1,15 @@
 //! Steps that are a task's own affair.
 
-ghost use Rattle.std.specs.Prelude.{◌≡◌, ◌≢◌, ◌+◌, ◌≤◌, ◌∷◌, ◌++◌, ℕ, drop, length, map, true, IfOk, OnErr, OnOk, MatchOption, vec_len, vec_capacity};
+ghost use Rattle.std.specs.Prelude.{◌≡◌, ◌≢◌, ◌⊎◌, ◌+◌, ◌≤◌, ◌∷◌, ◌++◌, ℕ, drop, length, map, true, IfOk, OnErr, OnOk, MatchOption, vec_len, vec_capacity};
 ghost use Rattle.sf_base.specs.declared.value.Value.{Value as V};
 ghost use Rattle.sf_core.specs.Machine.Step.{Event};
 ghost use Rattle.sf_core.specs.Machine.Whole.{numbers};
 ghost use Rattle.sf_core.specs.Program.ProgramView.{program_of};
 ghost use Rattle.sf_core.specs.Program.View.{command_of};
 ghost use Rattle.sf_foot.specs.Starting.{HasWidth};
-ghost use Rattle.sf_part.specs.Answers.{Answers};
+ghost use Rattle.sf_frame.specs.Checked.Effects.{IsMore};
+ghost use Rattle.sf_frame.specs.Checked.Frames.{IsCall};
+ghost use Rattle.sf_part.specs.Answers.{Answers, MayRunOut};
 ghost use Rattle.sf_part.specs.Checked.Meeting.{IsMeeting};
 ghost use Rattle.sf_part.specs.Checked.Standing.{Runs};
 ghost use Rattle.sf_part.specs.Checked.Stepping.{IsNextOf, IsOwnEffect, IsPerformed, Plans};
@@ -44,7 +46,8 @@ impl<'p> Part<'p> {
     /// `Done` come exactly where that is next. `Spent` comes exactly where the step would be the
     /// task's own affair and no number is left; `Absent` exactly where one is left and the part has
     /// no cell where a look-up, mutation or dispose looks for it. After any answer but `Moved` the
-    /// part is as it was. So it is after an `Err`, which says that memory ran out.
+    /// part is as it was. So it is after an `Err`, which comes only at a `new` or a call and says that
+    /// memory ran out.
     pub fn step_local(&mut self, p: &'p Program) -> Result<Local, AllocError>
         requires of { IsPartOf (program_of p.now) self.old }
         requires runs { IsWaiting (part_of self.old).part.stand → ⊥ }
@@ -55,6 +58,7 @@ impl<'p> Part<'p> {
         ensures unchanged { IfOk result
             (λ answer. answer ≢ Local.Moved → part_of self.new ≡ part_of self.old) }
         ensures err { OnErr result (part_of self.new ≡ part_of self.old) }
+        ensures memory { OnErr result (MayRunOut (part_of self.old)) }
         ensures of { IsPartOf (program_of p.now) self.new }
     {
         match planned(self, p)? {
@@ -66,8 +70,9 @@ impl<'p> Part<'p> {
         }
     }
 
-    /// Makes of a part what was planned for its next step. An `Err` says that memory ran out, and
-    /// the part is as it was. Cells have as many fields as before.
+    /// Makes of a part what was planned for its next step. An `Err` comes only where that is more
+    /// than an edit, or a frame more: it says that memory ran out, and the part is as it was. Cells
+    /// have as many fields as before.
     fn perform(&mut self, number: u64, effect: Effect, change: Change<'p>) -> Result<(), AllocError>
         requires runs { Runs self.old.stand }
         requires next { numbers self.old.supply ≡ number ∷ drop 1 (numbers self.old.supply) }
@@ -75,6 +80,7 @@ impl<'p> Part<'p> {
         requires room { HasLogRoom self.old }
         ensures ok { OnOk result (IsPerformed number effect change.entry self.old self.new) }
         ensures err { OnErr result (part_of self.new ≡ part_of self.old) }
+        ensures memory { OnErr result (IsMore effect ⊎ IsCall change.entry) }
         ensures blank { self.new.blank ≡ self.old.blank }
         ensures width { (count : ℕ) → length self.old.blank ≡ count
             → HasWidth count self.old.shared.heap → HasWidth count self.new.shared.heap }
@@ -115,7 +121,8 @@ pub(crate) fn note(log: &mut Vec<Stamped>, keeps: bool, entry: Stamped)
 fn planned<'p>(part: &Part<'p>, p: &'p Program) -> Result<Plan<'p>, AllocError>
     requires of { IsPartOf (program_of p.now) part.now }
     requires runs { IsWaiting (part_of part.now).part.stand → ⊥ }
-    ensures { IfOk result (Plans (program_of p.now) part.now) }
+    ensures plans { IfOk result (Plans (program_of p.now) part.now) }
+    ensures memory { OnErr result (MayRunOut (part_of part.now)) }
 {
     match &part.stand {
         Stand::Over => Ok(Plan::Says(Local::Done)),
@@ -132,7 +139,8 @@ fn plan_next<'p>(
 ) -> Result<Plan<'p>, AllocError>
     requires of { IsPartOf (program_of p.now) part.now }
     requires next { IsNextOf part.now next }
-    ensures { IfOk result (Plans (program_of p.now) part.now) }
+    ensures plans { IfOk result (Plans (program_of p.now) part.now) }
+    ensures memory { OnErr result (MayRunOut (part_of part.now)) }
 {
     match next {
         Next::Done => Ok(Plan::Says(Local::Done)),
@@ -170,7 +178,8 @@ fn plan_own<'p>(
 ) -> Result<Plan<'p>, AllocError>
     requires of { IsPartOf (program_of p.now) part.now }
     requires next { IsNextOf part.now (Next.Does frame command) }
-    ensures { IfOk result (Plans (program_of p.now) part.now) }
+    ensures plans { IfOk result (Plans (program_of p.now) part.now) }
+    ensures memory { OnErr result (MayRunOut (part_of part.now)) }
 {
     if let Some(answer) = meeting(command) {
         return Ok(Plan::Says(answer));

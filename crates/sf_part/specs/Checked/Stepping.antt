@@ -12,14 +12,14 @@ use Rattle.sf_core.specs.Machine.Supplies.{has, NextTakes}
 use Rattle.sf_core.specs.Machine.Whole.{running, numbers}
 use Rattle.sf_core.specs.Program.Syntax.{Program}
 use Rattle.sf_frame.specs.Commons.{common_of}
-use Rattle.sf_frame.specs.Checked.Effects.{applied, HasField, Suits}
-use Rattle.sf_frame.specs.Checked.Frames.{moved}
+use Rattle.sf_frame.specs.Checked.Effects.{applied, HasField, IsMore, Suits}
+use Rattle.sf_frame.specs.Checked.Frames.{moved, IsCall}
 use Rattle.sf_frame.specs.Checked.Nexts.{IsNext}
 use Rattle.sf_frame.specs.declared.effect.Effect.{Effect}
 use Rattle.sf_frame.specs.declared.following.Next.{Next}
 use Rattle.sf_frame.specs.declared.stack.Change.{Change}
 use Rattle.sf_heap.specs.Cells.{cell_of}
-use Rattle.sf_part.specs.Answers.{AnswersOf}
+use Rattle.sf_part.specs.Answers.{AnswersOf, NeedsRoom}
 use Rattle.sf_part.specs.declared.local.Local.TheVariants.{Moved}
 use Rattle.sf_part.specs.declared.part.Part.{Part}
 use Rattle.sf_part.specs.declared.stepping.Plan.{Plan}
@@ -39,8 +39,7 @@ own_event a number = record {
   task = a.task;
   number = number;
   at = number;
-  fields =
-      cell_of a.blank;
+  fields = cell_of a.blank;
 }
 
 -- what the event makes of what the part has
@@ -72,6 +71,7 @@ pub record ActsLocally (p : Program) (a : Part) (number : ℕ) (effect : Effect)
   pub own : IsOwnEffect a number effect
   pub of : FramesAreOf p (acted a number effect).store (moved change frames)
   pub regions : (r : ResId) → regions p r (moved change frames) ≡ regions p r frames
+  pub room : IsMore effect ⊎ IsCall change → NeedsRoom (next (runs frames))
 
 -- the plan is that of the next step of a part, or says why it isn't the task's own affair
 abbrev pub PlansOf : Program → Part → List Frame → Plan → Type 0

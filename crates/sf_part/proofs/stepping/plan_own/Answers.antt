@@ -41,8 +41,8 @@ unreachable-requires c =
     (c.requires.next.1 ∙ ap running c.requires.next.2.2) c.in-Forks.field-0 c.in-Forks.field-1
     planned
 
-pub returns-in-Acts : goal.returns-in-Acts
-returns-in-Acts c =
+pub returns-in-Acts-clause-plans : goal.returns-in-Acts-clause-plans
+returns-in-Acts-clause-plans c =
     let planned = rw c.in-Acts.is at
     (c.in_ok-effect.ensures.plans (cell_of c.args.part.now.blank) c.requires.next.2.0
     c.requires.next.2.1) in (
@@ -55,11 +55,11 @@ returns-in-Acts c =
           (fixed_of c.args.frame.now) c.requires.next.2.0 (command_of c.args.command.now)
           c.requires.next.2.1
           c.in_default.ensures (c.requires.next.1 ∙ ap running c.requires.next.2.2) c.in-Acts.effect
-          c.in-Acts.change planned,
+          c.in-Acts.change planned (rw c.in-Acts.is at c.in_ok-effect.ensures.room),
     )
 
-pub returns-in-Refused : goal.returns-in-Refused
-returns-in-Refused c =
+pub returns-in-Refused-clause-plans : goal.returns-in-Refused-clause-plans
+returns-in-Refused-clause-plans c =
     let frames = frames_with (fixed_of c.args.frame.now)
     (command (command_of c.args.command.now) ∷ c.requires.next.2.1) c.requires.next.2.0 in
     let planned = rw c.in-Refused.is at

@@ -1,4 +1,4 @@
-use Rattle.std.proofs.Common.{ap, ◌∙◌, ◌+◌, ◌≡◌, ◌∷◌, refl, subst, sym, arith}
+use Rattle.std.proofs.Common.{ap, inl, inr, ◌∙◌, ◌+◌, ◌≡◌, ◌∷◌, refl, subst, sym, arith}
 use Rattle.sf_core.specs.Machine.Config.{Common}
 use Rattle.sf_core.specs.Machine.Whole.{running}
 use Rattle.sf_frame.specs.Checked.Frames.{moved}
@@ -75,3 +75,11 @@ returns-clause-ok c = record {
   blank = refl;
   log = c.note.ensures;
 }
+
+pub returns-in_err-reserve-clause-memory : goal.returns-in_err-reserve-clause-memory
+returns-in_err-reserve-clause-memory c =
+    on-err c.from_residual.result (inr c.in_err-reserve.ensures.memory)
+
+pub returns-in_err-apply-clause-memory : goal.returns-in_err-apply-clause-memory
+returns-in_err-apply-clause-memory c =
+    on-err c.from_residual-in_err-apply.result (inl c.in_err-apply.ensures.memory)
