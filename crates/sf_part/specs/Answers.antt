@@ -66,4 +66,5 @@ NeedsRoom _ = ⊥
 
 -- so it is of a task of that part, which runs
 abbrev pub MayRunOut : TimedPart → Type 0
-MayRunOut a = (frames : List Frame) × (a.part.stand ≡ running frames) × NeedsRoom (next (runs frames))
+MayRunOut a = (frames : List Frame) × (a.part.stand ≡ running frames)
+    × NeedsRoom (next (runs frames))
