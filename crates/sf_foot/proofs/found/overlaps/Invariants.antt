@@ -1,7 +1,7 @@
 use Rattle.std.proofs.Common.{◌≡◌, All, false, take}
 use Rattle.std.specs.BTreeSet.{contains}
 use Rattle.std.specs.Ordering.{nat_cmp}
-use Rattle.sf_state.proofs.finding.overlaps.Given as goal
+use Rattle.sf_foot.proofs.found.overlaps.Given as goal
 
 -- none so far is in the set
 abbrev pub invariant-loop-l : goal.invariant-loop-l

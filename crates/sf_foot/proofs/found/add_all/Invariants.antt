@@ -2,7 +2,7 @@ use Rattle.std.proofs.Common.{◌≡◌, ◌||◌, ℕ, drop, nat_eq}
 use Rattle.std.specs.BTreeSet.{contains}
 use Rattle.std.specs.Ordering.{nat_cmp}
 use Rattle.std.specs.Set.{is_member}
-use Rattle.sf_state.proofs.finding.add_all.Given as goal
+use Rattle.sf_foot.proofs.found.add_all.Given as goal
 
 -- with those that are left the set has what it had and all of them
 abbrev pub invariant-loop-l : goal.invariant-loop-l

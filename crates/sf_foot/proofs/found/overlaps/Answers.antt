@@ -2,7 +2,7 @@ use Rattle.std.proofs.Common.{◌≡◌, ◌∙◌, false, sym}
 use Rattle.std.specs.BTreeSet.{contains}
 use Rattle.std.specs.Ordering.{nat_cmp}
 use Rattle.std.proofs.lemmas.List.Elements.{All-more}
-use Rattle.sf_state.proofs.finding.overlaps.Goals as goal
+use Rattle.sf_foot.proofs.found.overlaps.Goals as goal
 
 -- one more isn't in the set
 pub loop-l-preserved : goal.loop-l-preserved
