@@ -108,8 +108,7 @@ module _ (p : Program) (formed : IsFormed p) (a b : CodePart) (k : Content) (num
   abbrev both : Part
   both = record (part_of a).part {
     heap = (common_of b.shared).heap;
-    store =
-        (common_of b.shared).store;
+    store = (common_of b.shared).store;
   }
 
   hand : HasInHand (part_of a).part (content_of k).content both

@@ -434,8 +434,7 @@ goes-local p formed ev s f below (call q c) rest t u l fresh of d =
     record {
       frames = callee_frame f.slots c d.0 (room_for d.0 ev.number 0) ∷ record {
         fixed = f;
-        todo =
-            rest;
+        todo = rest;
       } ∷ below;
       is = d.3;
       of = subst (λ (z : Common). FramesAreOf p z.store

@@ -84,8 +84,7 @@ pub sites-first : (c : Command) (rest : List Item)
 sites-first c rest = (contains-cons (record { entered = inside rest; command = c })
     (inner_sites (inside rest) c ++ sites_in rest) (record {
       entered = inside rest;
-      command =
-          c;
+      command = c;
     })).1 (inl refl)
 
 -- a resource is among those or it isn't

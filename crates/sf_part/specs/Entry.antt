@@ -13,8 +13,7 @@ use Rattle.sf_part.specs.Guards.{StandsAt}
 use Rattle.sf_part.specs.Timed.{TimedContent, TimedPart}
 
 -- the part and the content have no cell and no slot in common, and no unit of the part is a
--- location
--- of the content, or the number of a slot of it
+-- location of the content, or the number of a slot of it
 pub record AreApart (a : Part) (k : Content) : Type 0 where
   pub heap : (location : ℕ) → Apart (a.heap location) (k.heap location)
   pub store : (slot : Slot) → Apart (a.store slot) (k.store slot)

@@ -14,8 +14,7 @@ abbrev pub part_of : Part → TimedPart
 part_of a = part_with a.task a.stand a.shared a.supply a.clock a.keeps a.log.items a.given
 
 -- a part of the code is a program's: its cells have the program's fields too, and so has the cell
--- that
--- the next `new` makes, which are nil
+-- that the next `new` makes, which are nil
 pub record IsPartOf (p : Program) (a : Part) : Type 0 where
   pub is : IsOf p (part_of a).part
   pub wide : HasWidth (length p.fields) a.shared.heap

@@ -21,8 +21,7 @@ GivenContentsAreOne = (p : Program) (both a b : Part) (k j : Content)
     → IsContentOf p j → (k ≡ j) × (a ≡ b)
 
 -- of one part with two children in hand, each with just the share of its frame, the shares are one,
--- and
--- so is what the parent keeps, where the preconditions are determined
+-- and so is what the parent keeps, where the preconditions are determined
 unfoldable pub LentSharesAreOne : Type 0
 LentSharesAreOne = (p : Program) (all a b one two left right : Part) (f g : Frame)
     → ((number : ℕ) (h : Procedure) → slice_get p.procedures number ≡ Some h
