@@ -17,5 +17,7 @@ mod pieces;
 mod stuck;
 mod wanted;
 
-pub use failure::{failed, too_large};
+pub use failure::{failed, put_goal_line, too_large};
+pub use names::put_variable;
 pub use stuck::Stuck;
+pub use wanted::{address, misfit_at, term};

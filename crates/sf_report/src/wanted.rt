@@ -151,7 +151,7 @@ fn first_cell(atoms: &[Numbered], t: Term) -> Option<&[(FieldId, Term)]>
 
 /// What meets in the first field that doesn't fit the first cell there. `None` exactly where there
 /// is no cell or all its fields fit; an `Err` means out of memory.
-fn misfit_at(
+pub fn misfit_at(
     alloc: Global,
     s: &State,
     bindings: &[Option<Term>],
@@ -262,7 +262,7 @@ fn put_first(
 }
 
 /// The expression at whose value a command wants a cell.
-fn address(c: &Command) -> Option<Expr>
+pub fn address(c: &Command) -> Option<Expr>
     ensures { result ≡ address (command_of c.now) }
 {
     match c {
@@ -274,7 +274,7 @@ fn address(c: &Command) -> Option<Expr>
 }
 
 /// The term of an expression.
-fn term(s: &State, e: Expr) -> Term
+pub fn term(s: &State, e: Expr) -> Term
     ensures { result ≡ term s.now.vars e }
 {
     match e {

@@ -1,0 +1,9 @@
+mod CellValues
+mod Heaps
+mod Normality
+mod Equations
+mod HeapParts
+mod Wishes
+mod Views
+mod Wants
+pub mod Satisfying

@@ -1,0 +1,6 @@
+pub mod Located
+pub mod Normal
+pub mod WitnessState
+pub mod Wanted
+pub mod Satisfied
+pub mod Checked
