@@ -6,4 +6,5 @@ mod HeapParts
 mod Wishes
 mod Views
 mod Wants
+mod Texts
 pub mod Satisfying

@@ -9,11 +9,12 @@
 //! - `shapes`: whether a heap has a wanted segment or tree.
 //! - `wanted`: whether what the goal is stuck at is so in its witness.
 //! - `finding`: the witness of a goal.
+//! - `text`: its text.
 //! - `laws`: a witness satisfies what its goal knows.
 //!
 //! `specs/` says which value a symbol has (Located), which states have a witness (Normal), what it is
-//! (WitnessState), what is asked for and whether it is so there (Wanted), and what it is to satisfy
-//! a state (Satisfied).
+//! (WitnessState), what is asked for and whether it is so there (Wanted), what it is to satisfy a
+//! state (Satisfied), and how a witness is written (WitnessText).
 #![tactic(auto)]
 
 mod cells;
@@ -22,7 +23,9 @@ pub mod laws;
 mod meeting;
 mod normal;
 mod shapes;
+mod text;
 mod values;
 mod wanted;
 
 pub use finding::{Witness, witness_of};
+pub use text::witness_text;
