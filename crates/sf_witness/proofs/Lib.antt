@@ -7,4 +7,8 @@ mod Wishes
 mod Views
 mod Wants
 mod Texts
+mod Rising
+mod Finite
+mod Decided
+pub mod OneText
 pub mod Satisfying

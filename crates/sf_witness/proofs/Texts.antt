@@ -43,7 +43,7 @@ there-is None = (λ n. absurd (n refl), λ i. absurd (cc))
 there-is (Some k) = (λ n. refl, λ i e. some-none (cell_of k) e)
 
 -- the cells are at the locations of a map
-heap-at : (cells : Cells) (heap : Heap) (at : List ℕ) → AreAt at cells → heap_of cells ≡ heap
+pub heap-at : (cells : Cells) (heap : Heap) (at : List ℕ) → AreAt at cells → heap_of cells ≡ heap
     → (l : ℕ) → heap l ≢ None ↔ Contains at l
 heap-at cells heap at is e l =
     subst (λ (h : Heap). h l ≢ None ↔ Contains at l) e
