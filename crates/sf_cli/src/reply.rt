@@ -53,7 +53,7 @@ pub(crate) fn say_of(alloc: Global, text: &str, name: &[u8], status: u8) -> Resu
 }
 
 /// Why a search is stuck, as it is printed.
-fn printed(kind: Kind) -> Stuck
+pub(crate) fn printed(kind: Kind) -> Stuck
     ensures { result ≡ printed (kind_of kind) }
 {
     match kind {

@@ -15,6 +15,7 @@ mod sets;
 mod tables;
 mod verdicts;
 mod wide;
+mod witnesses;
 mod workers;
 
 use crate::top::smallfoot;
@@ -37,6 +38,7 @@ use tables::{
     LANGUAGE, NESTS, NO_COMMANDS, UNDETERMINED,
 };
 use verdicts::{CALLS, CHOICES, EXISTENTIALS, LISTS, LOOPS, PARALLEL, RECURSION, RESOURCES, TREES};
+use witnesses::WITNESSES;
 
 /// The command says that to the words over that shelf, with that status.
 fn says<R: Threads + Wait + Sync + Abort>(
@@ -99,6 +101,12 @@ fn commands_have_their_answers(rt: HostRuntime) -> Result<(), Fail> {
 #[test]
 fn made_files_are_proved(rt: HostRuntime) -> Result<(), Fail> {
     are_said(&rt, rt.alloc(), &DEMOS)
+}
+
+#[test]
+fn failed_obligations_have_witnesses(rt: HostRuntime) -> Result<(), Fail> {
+    let alloc = rt.alloc();
+    are_said(&rt, alloc, &WITNESSES)
 }
 
 #[test]
