@@ -15,7 +15,7 @@ use Rattle.sf_sym.specs.Goal.{Goal}
 use Rattle.sf_rules.specs.First.{first_goal}
 use Rattle.sf_rules.specs.Checked.Lemmas.RowRules.{row-leaves}
 use Rattle.sf_rules.specs.Checked.Lemmas.RuleRows.{leaves-row}
-use Rattle.sf_rules.specs.Rows.Whole.{row}
+use Rattle.sf_rules.specs.Checked.Rows.Whole.{row}
 use Rattle.sf_rules.specs.Setting.{Setting}
 use Rattle.sf_check.specs.Checked.Taken.{is_begin, begin, taken_at, taken, after}
 use Rattle.sf_check.specs.Stand.{Stand, Takes, TakesAll, begins, goes_on, is_finished}

@@ -27,7 +27,7 @@ use Rattle.sf_cli.specs.FileFault.{Admits}
 use Rattle.sf_cli.specs.Checked.Laws.{AcceptedFilesAreSound, AcceptedProofsAreSound, AcceptedRunsAreSound}
 use Rattle.sf_cli.specs.Reads.{Reads}
 use Rattle.sf_cli.specs.Rechecked.{accepted, rejected}
-use Rattle.sf_words.specs.Words.{Text, Order, demo, order_of, ranking, recheck, replay, run, verify}
+use Rattle.sf_words.specs.Words.{Text, Order, demo, order_of, ranking, recheck, replay, run, verify, witness}
 
 -- a program that is read is in order
 pub accepted-formed : EachFileIsShallow → ElaboratedIsFormed → (bytes : Text) (p : Program) → Reads bytes p → IsFormed p
@@ -168,6 +168,7 @@ accepted-order files proofs runs told words text status asks s a = go (order_of 
         by_demo procedures e k (demo-sound files procedures text status z k)
     go (Some (ranking file)) e q x = absurd q
     go (Some (replay file entry state schedule)) e q x = absurd q
+    go (Some (witness file)) e q x = absurd q
 
 -- what is said with such a status promises it
 pub accepted-reply : AcceptedFilesAreSound → AcceptedProofsAreSound → AcceptedRunsAreSound → (told : Option Files)

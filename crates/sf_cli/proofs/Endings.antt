@@ -17,7 +17,7 @@ use Rattle.sf_cli.specs.SoundFile.{MayHave}
 use Rattle.sf_cli.specs.FileFault.{Admits}
 use Rattle.sf_cli.specs.Checked.Laws.{FinishedRunsHaveEnded}
 use Rattle.sf_cli.specs.Ran.{OutcomeAnswer, init_not_built, no_start, ran}
-use Rattle.sf_words.specs.Words.{Order, Text, demo, recheck, run, verify, ranking, replay}
+use Rattle.sf_words.specs.Words.{Order, Text, demo, recheck, run, verify, ranking, replay, witness}
 
 -- what comes of a start, where it is answered with status 0
 ended-outcome : BeginningsAreStarts → EndsAreNumbered → (told : Option Files) (file bytes entry state_name text : Text)
@@ -103,6 +103,7 @@ ended-reply law told before after order text status z (answer l a) = go order a
     go (Some (demo procedures)) x = tt
     go (Some (ranking file)) x = tt
     go (Some (replay file entry state schedule)) x = tt
+    go (Some (witness file)) x = tt
     go (Some (run file entry state steps waits)) x =
         law told file entry state text steps waits
         (subst (λ (n : ℕ). OrderAnswer told (Some (run file entry state steps waits)) text n) z x)

@@ -14,6 +14,7 @@ pub mod Complete
 pub mod AnswerLaws
 pub mod DemoAnswers
 pub mod Rankings
+pub mod Witnesses
 pub mod ReplayReplies
 pub mod OneReplay
 pub mod AReplay

@@ -29,19 +29,19 @@ use Rattle.sf_check.specs.Refusal.{Refused}
 use Rattle.sf_io.specs.Shelf.{Files}
 use Rattle.sf_proof.specs.declared.lined.Lined.{Lined}
 use Rattle.sf_proof.specs.Checked.Laws.{EachTextReadsOnce}
-use Rattle.sf_cli.specs.Answer.{FileAnswer, OrderAnswer, ProgramAnswer, RankingFileAnswer, RecheckAnswer, RunAnswer, VerdictAnswer, admitted, file_refused, rechecked, refused}
+use Rattle.sf_cli.specs.Answer.{FileAnswer, OrderAnswer, ProgramAnswer, RankingFileAnswer, RecheckAnswer, RunAnswer, VerdictAnswer, WitnessFileAnswer, admitted, file_refused, rechecked, refused}
 use Rattle.sf_cli.specs.Replayed.{ReplayAnswer}
 use Rattle.sf_cli.specs.declared.rejection.Rejection.{Rejection}
 use Rattle.sf_cli.specs.declared.refusal.Refusal.{Refusal}
 use Rattle.sf_cli.specs.declared.refusal.Refusal.TheVariants.{At}
 use Rattle.sf_cli.specs.declared.refusal.RefusalKind.TheVariants.{Undetermined}
 use Rattle.sf_cli.specs.FileFault.{ReadFault, in_tokens, in_grammar, in_names, ProgramFault, in_variables, in_order, FileFault, unread, unfit, Admits}
-use Rattle.sf_cli.specs.Checked.Laws.{EachCommandHasOneAnswer, EachDemoHasOneAnswer, EachFileHasOneAnswer, EachFileIsDecided, EachFileIsOneProgram, EachProofHasOneAnswer, EachRunHasOneAnswer, EachRankingHasOneAnswer, EachReplayHasOneAnswer}
+use Rattle.sf_cli.specs.Checked.Laws.{EachCommandHasOneAnswer, EachDemoHasOneAnswer, EachFileHasOneAnswer, EachFileIsDecided, EachFileIsOneProgram, EachProofHasOneAnswer, EachRunHasOneAnswer, EachRankingHasOneAnswer, EachReplayHasOneAnswer, EachWitnessHasOneAnswer}
 use Rattle.sf_cli.specs.Reads.{Reads}
 use Rattle.sf_cli.specs.Refusals.{of_tokens, of_grammar, of_names, of_variables, refusal_text}
 use Rattle.sf_cli.specs.Rechecked.{IsProof, ProofAnswer, ProofFault, accepted, in_tags, in_text, rejected}
 use Rattle.sf_cli.specs.Rejections.{of_tags, of_text, rejection_text}
-use Rattle.sf_words.specs.Words.{Text, Order, demo, order_of, ranking, recheck, replay, run, verify}
+use Rattle.sf_words.specs.Words.{Text, Order, demo, order_of, ranking, recheck, replay, run, verify, witness}
 
 -- what the layers below say of their own answers
 pub record Layers : Type 0 where
@@ -235,8 +235,9 @@ recheck-once l one files bytes name text other status code (rechecked p a (given
 
 -- a command has one answer over the same files
 pub answer-command : EachFileIsDecided → EachFileHasOneAnswer → EachProofHasOneAnswer → EachRunHasOneAnswer
-    → EachDemoHasOneAnswer → EachRankingHasOneAnswer → EachReplayHasOneAnswer → EachCommandHasOneAnswer
-answer-command l one proofs runs demos rankings replays files words text other status code a b = go (order_of words) a b
+    → EachDemoHasOneAnswer → EachRankingHasOneAnswer → EachReplayHasOneAnswer
+    → EachWitnessHasOneAnswer → EachCommandHasOneAnswer
+answer-command l one proofs runs demos rankings replays witnesses files words text other status code a b = go (order_of words) a b
   where
     go : (o : Option Order) → OrderAnswer (Some files) o text status → OrderAnswer (Some files) o other code
         → (text ≡ other) × (status ≡ code)
@@ -260,3 +261,6 @@ answer-command l one proofs runs demos rankings replays files words text other s
         let same : found ≡ bytes = some-once (files file) found bytes has may in
         replays files bytes entry state schedule text other status code x
         (subst (λ (z : Text). ReplayAnswer (Some files) z entry state schedule other code) same y)
+    go (Some (witness file)) (bytes, may, x) (found, has, y) =
+        let same : found ≡ bytes = some-once (files file) found bytes has may in
+        witnesses bytes text other status code x (subst (λ (z : Text). WitnessFileAnswer z other code) same y)

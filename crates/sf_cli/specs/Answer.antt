@@ -21,10 +21,7 @@ use Rattle.sf_state.specs.Starts.{IsStartText}
 use Rattle.sf_state.specs.declared.fault.StartFault.{StartFault}
 use Rattle.sf_cli.specs.FileFault.{FileFault, Admits}
 use Rattle.sf_cli.specs.Refusals.{refusal_text}
-use Rattle.sf_report.specs.declared.stuck.Stuck.{Stuck}
-use Rattle.sf_report.specs.declared.stuck.Stuck.TheVariants.{NoCell, NotEqual, NotDifferent, NoAtom, Leak, EndNotAllocated}
 use Rattle.sf_report.specs.Failure.{failure_text, too_large_text}
-use Rattle.sf_search.specs.Strategy.{Kind, no_cell, not_equal, not_different, no_atom, leak, end_not_allocated}
 use Rattle.sf_search.specs.Judge.{Cause, stuck_at, too_large, Verdict, proof, fails, Judge}
 use Rattle.sf_base.specs.declared.ids.ProcId.{ProcId}
 use Rattle.sf_proof.specs.ProofText.{proof_text}
@@ -40,23 +37,15 @@ use Rattle.sf_cli.specs.Ran.{IsFinishedText, StateAnswer}
 use Rattle.sf_cli.specs.Ranked.{RankingAnswer}
 use Rattle.sf_cli.specs.Rechecked.{ProofAnswer}
 use Rattle.sf_cli.specs.Replayed.{ComesByBytes, ReplayAnswer}
-use Rattle.sf_words.specs.Words.{Text, Order, demo, order_of, ranking, recheck, replay, run, verify}
+use Rattle.sf_words.specs.Words.{Text, Order, demo, order_of, ranking, recheck, replay, run, verify, witness}
 use Rattle.sf_cli.specs.StartRefusals.{start_refusal_text}
 use Rattle.sf_cli.specs.Usage.{usage_text}
-
--- why a search is stuck, as it is printed
-abbrev pub printed : Kind → Stuck
-printed no_cell = NoCell
-printed not_equal = NotEqual
-printed not_different = NotDifferent
-printed no_atom = NoAtom
-printed leak = Leak
-printed end_not_allocated = EndNotAllocated
+use Rattle.sf_witness.specs.WitnessText.{WitnessText}
 
 -- why a procedure fails, printed: the goal at which its search is stuck, or that its proof would be
 -- too large
 abbrev pub cause_text : Program → ProcId → Cause → Text
-cause_text p f (stuck_at goal kind before) = failure_text p f goal (printed kind)
+cause_text p f (stuck_at goal kind before) = failure_text p f goal kind
 cause_text p f too_large = too_large_text p f
 
 -- the verdict on a program, printed
@@ -147,6 +136,30 @@ pub data RankingFileAnswer (bytes text : Text) (status : ℕ) : Type 0 where
       → RankingFileAnswer bytes text status
   admitted_ranking : (p : Program) → Admits bytes p → RankingAnswer p text status → RankingFileAnswer bytes text status
 
+-- what is said of a verdict where a witness is asked for: that the program is proved; the witness of
+-- the goal at which the first search is stuck; or that a proof would be too large
+abbrev pub WitnessVerdict : Program → Verdict → Text → (status : ℕ) → Type 0
+WitnessVerdict p (proof tags) text status = (text ≡ codes "accepted\n") × (status ≡ 0)
+WitnessVerdict p (fails f (stuck_at goal kind before)) text status =
+    WitnessText p f goal kind text × (status ≡ 1)
+WitnessVerdict p (fails f too_large) text status = (text ≡ too_large_text p f) × (status ≡ 1)
+
+-- the answer to a program with which nothing is wrong, by the verdict on it
+pub record WitnessAnswer (p : Program) (text : Text) (status : ℕ) : Type 0 where
+  pub setting : Setting
+  pub own : IsSettingOf p setting
+  pub verdict : Verdict
+  pub judged : Judge setting verdict
+  pub said : WitnessVerdict p verdict text status
+
+-- the answer to a file's bytes of which a witness is asked for: the file is refused, or it is the answer to the program
+-- that it reads as
+pub data WitnessFileAnswer (bytes text : Text) (status : ℕ) : Type 0 where
+  refused_witness : (r : Refusal) → FileFault bytes r → text ≡ refusal_text r → status ≡ 3
+      → WitnessFileAnswer bytes text status
+  admitted_witness : (p : Program) → Admits bytes p → WitnessAnswer p text status
+      → WitnessFileAnswer bytes text status
+
 -- the words are answered with the usage
 abbrev pub IsUsage : Text → (status : ℕ) → Type 0
 IsUsage text status = (text ≡ usage_text) × (status ≡ 2)
@@ -165,6 +178,8 @@ OrderAnswer told (Some (ranking file)) text status =
     (bytes : Text) × MayHave told file bytes × RankingFileAnswer bytes text status
 OrderAnswer told (Some (replay file entry state schedule)) text status =
     (bytes : Text) × MayHave told file bytes × ReplayAnswer told bytes entry state schedule text status
+OrderAnswer told (Some (witness file)) text status =
+    (bytes : Text) × MayHave told file bytes × WitnessFileAnswer bytes text status
 
 -- the answer over the files of a shelf
 abbrev pub Answers : Option Files → (words : List Text) → Text → (status : ℕ) → Type 0
@@ -180,6 +195,7 @@ Names (Some (verify file workers)) name = name ≡ file
 Names (Some (recheck file proof_name)) name = (name ≡ file) ⊎ (name ≡ proof_name)
 Names (Some (run file entry state steps waits)) name = (name ≡ file) ⊎ (name ≡ state)
 Names (Some (ranking file)) name = name ≡ file
+Names (Some (witness file)) name = name ≡ file
 Names (Some (replay file entry state schedule)) name = (name ≡ file) ⊎ ((name ≡ state) ⊎ (name ≡ schedule))
 Names _ name = ⊥
 
@@ -208,6 +224,7 @@ Reaches told (Some (verify file workers)) name = name ≡ file
 Reaches told (Some (recheck file proof_name)) name = (name ≡ file) ⊎ ((name ≡ proof_name) × MayBeAdmitted told file)
 Reaches told (Some (run file entry state steps waits)) name = (name ≡ file) ⊎ ((name ≡ state) × MayBeRun told file entry)
 Reaches told (Some (ranking file)) name = name ≡ file
+Reaches told (Some (witness file)) name = name ≡ file
 Reaches told (Some (replay file entry state schedule)) name = (name ≡ file)
     ⊎ ((bytes : Text) × MayHave told file bytes × ComesByBytes told bytes entry state schedule name)
 Reaches told _ name = ⊥

@@ -7,16 +7,17 @@ use Rattle.sf_io.specs.Shelf.{Files}
 use Rattle.sf_core.specs.Machine.Sound.{IsSound}
 use Rattle.sf_cli.specs.Reads.{Reads}
 use Rattle.sf_gen.specs.Made.{made_text}
-use Rattle.sf_words.specs.Words.{Text, Order, demo, order_of, ranking, recheck, replay, run, verify}
+use Rattle.sf_words.specs.Words.{Text, Order, demo, order_of, ranking, recheck, replay, run, verify, witness}
 
 -- what has this status only comes where the program is proved: 0, and of runs 5 and 6
 abbrev pub IsAccepting : (status : ℕ) → Type 0
 IsAccepting status = (status ≡ 0) ⊎ ((status ≡ 5) ⊎ (status ≡ 6))
 
--- the order asks for a proof of its program: all do but `order` and `replay`
+-- the order asks for a proof of its program: all do but `order`, `replay` and `witness`
 abbrev pub AsksForProof : Option Order → Type 0
 AsksForProof (Some (ranking file)) = ⊥
 AsksForProof (Some (replay file entry state schedule)) = ⊥
+AsksForProof (Some (witness file)) = ⊥
 AsksForProof _ = Unit {0}
 
 -- the file of that name may have these bytes: where the shelf tells its files it has just them, and
@@ -34,6 +35,7 @@ AreProgram told (Some (run file entry state steps waits)) bytes = MayHave told f
 AreProgram told (Some (demo procedures)) bytes = bytes ≡ made_text procedures
 AreProgram told (Some (ranking file)) bytes = MayHave told file bytes
 AreProgram told (Some (replay file entry state schedule)) bytes = MayHave told file bytes
+AreProgram told (Some (witness file)) bytes = MayHave told file bytes
 AreProgram told None bytes = ⊥
 
 -- NamesSound: the words are an order about a program, whose bytes read as a program that is sound

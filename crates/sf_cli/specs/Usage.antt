@@ -8,4 +8,5 @@ abbrev pub usage_text : Text
 usage_text =
     codes "usage: smallfoot verify FILE [--workers K]\n" ++ codes "       smallfoot recheck FILE PROOF\n"
     ++ codes "       smallfoot run FILE ENTRY STATE [--steps N] [--waits W]\n" ++ codes "       smallfoot demo N\n"
-    ++ codes "       smallfoot replay FILE ENTRY STATE SCHEDULE\n" ++ codes "       smallfoot order FILE\n"
+    ++ codes "       smallfoot replay FILE ENTRY STATE SCHEDULE\n"
+    ++ codes "       smallfoot witness FILE\n" ++ codes "       smallfoot order FILE\n"

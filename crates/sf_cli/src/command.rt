@@ -13,6 +13,7 @@ use crate::reply::{Said, say};
 use crate::run::{RunWords, run_file};
 use crate::usage::USAGE;
 use crate::verify::verify_file;
+use crate::witness::witness_file;
 use sf_io::{Gate, Shelf};
 use sf_run::Budget;
 use sf_words::{Order, WordFault, read};
@@ -74,6 +75,7 @@ fn follow<R: Threads + Wait + Sync, S: Shelf, G: Gate>(
             };
             replay_file(alloc, file, &words, shelf)
         }
+        Order::Witness { file } => witness_file(alloc, file, shelf),
     }
 }
 

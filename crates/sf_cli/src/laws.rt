@@ -1,7 +1,7 @@
 //! Laws of answers. Each function is a law: calling it gives its fact to the caller's proof, and
 //! does nothing.
 
-ghost use Rattle.sf_cli.specs.Checked.Laws.{AcceptedFilesAreReplayedSafely, AcceptedFilesAreSound, AcceptedProofsAreSound, AcceptedRunsAreSound, EachCommandHasAnAnswer, EachCommandHasOneAnswer, EachDemoHasAnAnswer, EachDemoHasOneAnswer, EachFileHasAnAnswer, EachFileHasOneAnswer, EachFileIsDecided, EachFileIsOneProgram, EachProofHasAnAnswer, EachProofHasOneAnswer, EachRunHasAnAnswer, EachRunHasOneAnswer, FinishedRunsHaveEnded, EachRankingHasAnAnswer, EachRankingHasOneAnswer, EachReplayHasAnAnswer, EachReplayHasOneAnswer, ProvedProgramsAreReplayedSafely};
+ghost use Rattle.sf_cli.specs.Checked.Laws.{AcceptedFilesAreReplayedSafely, AcceptedFilesAreSound, AcceptedProofsAreSound, AcceptedRunsAreSound, EachCommandHasAnAnswer, EachCommandHasOneAnswer, EachDemoHasAnAnswer, EachDemoHasOneAnswer, EachFileHasAnAnswer, EachFileHasOneAnswer, EachFileIsDecided, EachFileIsOneProgram, EachProofHasAnAnswer, EachProofHasOneAnswer, EachRankingHasAnAnswer, EachRankingHasOneAnswer, EachReplayHasAnAnswer, EachReplayHasOneAnswer, EachRunHasAnAnswer, EachRunHasOneAnswer, EachWitnessHasAnAnswer, EachWitnessHasOneAnswer, FinishedRunsHaveEnded, ProvedProgramsAreReplayedSafely};
 
 use sf_check::laws::{proves_not_refused, proves_or_refused, refused_once};
 use sf_elab::laws::elaborated_is_formed;
@@ -21,6 +21,7 @@ use sf_search::{programs_have_verdicts, taken_tags_prove, verdicts_are_unique};
 use sf_sound::proofs_are_sound;
 use sf_state::laws::{entry_exists, entry_is_unique, start_exists, start_is_unique};
 use sf_vars::laws::{each_program_has_an_answer, each_program_has_one_answer};
+use sf_witness::laws::{each_goal_has_a_text, each_goal_has_one_text};
 
 /// Bytes read as at most one program.
 pub fn each_file_is_one_program()
@@ -160,6 +161,24 @@ pub fn each_ranking_has_an_answer()
     resources_are_listed_once();
 }
 
+/// A file of which a witness is asked for has at most one answer.
+pub fn each_witness_has_one_answer()
+    ensures { EachWitnessHasOneAnswer }
+{
+    each_file_is_decided();
+    setting_is_unique();
+    verdicts_are_unique();
+    each_goal_has_one_text();
+}
+
+/// A file of which a witness is asked for has an answer.
+pub fn each_witness_has_an_answer()
+    ensures { EachWitnessHasAnAnswer }
+{
+    each_file_has_an_answer();
+    each_goal_has_a_text();
+}
+
 /// A replay of a file's program has at most one answer over the same files.
 pub fn each_replay_has_one_answer()
     ensures { EachReplayHasOneAnswer }
@@ -217,6 +236,7 @@ pub fn each_command_has_an_answer()
     each_demo_has_an_answer();
     each_ranking_has_an_answer();
     each_replay_has_an_answer();
+    each_witness_has_an_answer();
 }
 
 /// Words have at most one answer over the same files.
@@ -231,6 +251,7 @@ pub fn each_command_has_one_answer()
     each_demo_has_one_answer();
     each_ranking_has_one_answer();
     each_replay_has_one_answer();
+    each_witness_has_one_answer();
 }
 
 /// Whatever bytes are answered with status 0 are those of a sound program.

@@ -12,6 +12,7 @@
 //! - `demo`: what it says to `demo`
 //! - `ranking`: what it says to `order`
 //! - `replay`: what it says to `replay`, in the order of its work
+//! - `witness`: what it says to `witness`
 //! - `found`: what is found of a schedule and why nothing is, printed
 //! - `start_refusal`: why there is no start, and the line that says so
 //! - `outcome`: what comes of a run, printed
@@ -43,6 +44,7 @@ mod tests;
 mod top;
 mod usage;
 mod verify;
+mod witness;
 mod writing;
 
 use crate::top::{OUT_OF_MEMORY, smallfoot};

@@ -55,7 +55,7 @@ fn answer_to_events(
     ensures { IfOk result (λ said. ScheduleAnswer (program_of arranged.now.program) f start.fresh
         start.vars start.heap given.now said.text.items said.status) }
 {
-    match replay(alloc, arranged, f, start, schedule) {
+    match replay(alloc, arranged, f, &start, schedule) {
         Ok(found) => say_found(alloc, &arranged.program, found),
         Err(ReplayFault::NotAnEvent(number, why)) => say_no_event(alloc, schedule, number, why),
         Err(ReplayFault::OutOfMemory) => Err(AllocError),

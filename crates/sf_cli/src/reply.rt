@@ -4,11 +4,11 @@ ghost use Rattle.std.specs.Prelude.{◌≡◌, ◌≢◌, ◌<◌, ◌≤◌, �
 ghost use Rattle.sf_check.specs.Accepted.{tags_in};
 ghost use Rattle.sf_core.specs.Program.ProgramView.{program_of};
 ghost use Rattle.sf_io.specs.Increased.{Increased};
-ghost use Rattle.sf_cli.specs.Answer.{VerdictAnswer, cause_text, printed};
+ghost use Rattle.sf_cli.specs.Answer.{VerdictAnswer, cause_text};
 ghost use Rattle.sf_cli.specs.Checked.Fetched.{Fetched};
 ghost use Rattle.sf_cli.specs.Refusals.{refusal_text};
 ghost use Rattle.sf_cli.specs.declared.refusal.Refusal.TheVariants.{OutOfMemory};
-ghost use Rattle.sf_search.specs.Ends.{cause_of, kind_of};
+ghost use Rattle.sf_search.specs.Ends.{cause_of};
 ghost use Rattle.sf_search.specs.Judge.{Cause, proof};
 ghost use Rattle.sf_words.specs.Words.{Text};
 
@@ -18,8 +18,8 @@ use sf_check::Proof;
 use sf_core::Program;
 use sf_io::{FetchFault, Shelf};
 use sf_proof::proof_text;
-use sf_report::{Stuck, failed, too_large};
-use sf_search::{Kind, SearchFault};
+use sf_report::{failed, too_large};
+use sf_search::SearchFault;
 use std::alloc::{AllocError, Global};
 
 /// What is said, and the status that goes with it.
@@ -52,20 +52,6 @@ pub(crate) fn say_of(alloc: Global, text: &str, name: &[u8], status: u8) -> Resu
     Ok(Said { text: line, status })
 }
 
-/// Why a search is stuck, as it is printed.
-fn printed(kind: Kind) -> Stuck
-    ensures { result ≡ printed (kind_of kind) }
-{
-    match kind {
-        Kind::NoCell => Stuck::NoCell,
-        Kind::NotEqual => Stuck::NotEqual,
-        Kind::NotDifferent => Stuck::NotDifferent,
-        Kind::NoAtom => Stuck::NoAtom,
-        Kind::Leak => Stuck::Leak,
-        Kind::EndNotAllocated => Stuck::EndNotAllocated,
-    }
-}
-
 /// That a procedure fails, and why. An `Err` means that memory ran out, which is also the answer
 /// where the search failed for that.
 pub(crate) fn say_failure(
@@ -79,7 +65,7 @@ pub(crate) fn say_failure(
 {
     match fault {
         SearchFault::Stuck(goal, kind, _) => Ok(Said {
-            text: failed(alloc, p, f, goal, printed(*kind))?,
+            text: failed(alloc, p, f, goal, *kind)?,
             status: 1,
         }),
         SearchFault::TooLarge => Ok(Said {

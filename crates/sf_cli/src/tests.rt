@@ -15,6 +15,7 @@ mod sets;
 mod tables;
 mod verdicts;
 mod wide;
+mod witnesses;
 mod workers;
 
 use crate::top::smallfoot;
@@ -37,6 +38,18 @@ use tables::{
     LANGUAGE, NESTS, NO_COMMANDS, UNDETERMINED,
 };
 use verdicts::{CALLS, CHOICES, EXISTENTIALS, LISTS, LOOPS, PARALLEL, RECURSION, RESOURCES, TREES};
+use witnesses::WITNESSES;
+
+/// The text that is meant. In that of a proof `; ` stands for a line feed, so that a line here has
+/// several tags.
+fn text_of(alloc: Global, text: &str) -> Result<String, Fail> {
+    let text = if text.starts_with("accepted") {
+        text.replace(alloc, "; ", "\n")?
+    } else {
+        String::from_str(alloc, text)?
+    };
+    Ok(text)
+}
 
 /// The command says that to the words over that shelf, with that status.
 fn says<R: Threads + Wait + Sync + Abort>(
@@ -49,7 +62,7 @@ fn says<R: Threads + Wait + Sync + Abort>(
     let mut sink = MemSink::new(alloc, usize::MAX);
     let status = smallfoot(rt, alloc, words, shelf, &mut sink, &OpenGate);
     let out = String::from_utf8_lossy(alloc, sink.bytes())?;
-    assert_eq!(rt; out.as_str(), answer.0);
+    assert_eq!(rt; out.as_str(), text_of(alloc, answer.0)?.as_str());
     assert_eq!(rt; status, answer.1);
     Ok(())
 }
@@ -60,7 +73,7 @@ fn shelf_with(alloc: Global, given: &str) -> Result<MemShelf, Fail> {
     for (name, text) in FILES {
         shelf.add(name, text.as_bytes())?;
     }
-    shelf.add("given", given.as_bytes())?;
+    shelf.add("given", text_of(alloc, given)?.as_bytes())?;
     Ok(shelf)
 }
 
@@ -99,6 +112,12 @@ fn commands_have_their_answers(rt: HostRuntime) -> Result<(), Fail> {
 #[test]
 fn made_files_are_proved(rt: HostRuntime) -> Result<(), Fail> {
     are_said(&rt, rt.alloc(), &DEMOS)
+}
+
+#[test]
+fn failed_obligations_have_witnesses(rt: HostRuntime) -> Result<(), Fail> {
+    let alloc = rt.alloc();
+    are_said(&rt, alloc, &WITNESSES)
 }
 
 #[test]
@@ -231,7 +250,7 @@ fn are_rechecked<R: Threads + Wait + Sync + Abort>(
     for (file, proof, answer) in cases {
         let mut shelf = MemShelf::new(alloc);
         shelf.add("p.sf", file)?;
-        shelf.add("p.proof", proof.as_bytes())?;
+        shelf.add("p.proof", text_of(alloc, proof)?.as_bytes())?;
         let words = ["recheck", "p.sf", "p.proof"];
         let status = if answer.starts_with("accepted") { 0 } else { 4 };
         says(rt, alloc, &words, &mut shelf, (answer, status))?;

@@ -4,5 +4,6 @@ pub const USAGE: &str = "usage: smallfoot verify FILE [--workers K]
        smallfoot run FILE ENTRY STATE [--steps N] [--waits W]
        smallfoot demo N
        smallfoot replay FILE ENTRY STATE SCHEDULE
+       smallfoot witness FILE
        smallfoot order FILE
 ";

@@ -1,6 +1,6 @@
 -- A first field that doesn't fit is found exactly where not all fit.
 -- Names: `meets-LAW` of one field, `misfit-LAW` of all.
-use Rattle.std.proofs.Common.{◌≡◌, ℕ, Bool, true, false, get_or, is_none, is_some, Option, Some, None, List, [], ◌∷◌, refl, sym, ap, ◌∙◌}
+use Rattle.std.proofs.Common.{◌≡◌, ℕ, false, get_or, is_none, is_some, Option, Some, None, List, [], ◌∷◌, refl, ap, ◌∙◌}
 use Rattle.std.specs.Option.{option_and_then, option_map}
 use Rattle.sf_base.specs.declared.ids.FieldId.{FieldId}
 use Rattle.sf_consume.specs.declared.differing.Misfit.{Misfit}

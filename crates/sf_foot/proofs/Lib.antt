@@ -16,3 +16,4 @@ pub mod Learning
 pub mod Walked
 pub mod Outcomes
 pub mod FootDecided
+pub mod Founds

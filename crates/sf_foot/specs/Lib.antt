@@ -1,4 +1,5 @@
 pub mod Footprint
+pub mod Found
 pub mod Starting
 pub mod Variables
 pub mod Checked

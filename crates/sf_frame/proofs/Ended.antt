@@ -7,8 +7,8 @@ use Rattle.sf_core.specs.Machine.Config.{Frame, runs}
 use Rattle.sf_core.specs.Machine.Enabled.{HasEnded}
 use Rattle.sf_frame.specs.declared.frame.Frame.{Frame as CodeFrame}
 use Rattle.sf_frame.proofs.NextTodo.{frames_alone}
-use Rattle.sf_frame.specs.declared.frame.Todo.{Todo}
-use Rattle.sf_frame.specs.declared.frame.Todo.TheVariants.{Commands, Leave}
+use Rattle.sf_frame.specs.declared.todo.Todo.{Todo}
+use Rattle.sf_frame.specs.declared.todo.Todo.TheVariants.{Commands, Leave}
 use Rattle.sf_frame.specs.Frames.{frame_of, frames_of, items_of, todo_of}
 
 -- a frame without entries has nothing to do, and one with entries has

@@ -1,11 +1,14 @@
+pub mod Acts
 pub mod Calls
 pub mod Ended
 pub mod Entries
 pub mod HeapChanges
+pub mod Moves
 pub mod NextTodo
 pub mod Opened
 pub mod Plans
 pub mod RoomSlots
 pub mod Spots
 pub mod Stacks
+pub mod Todos
 pub mod Views

@@ -5,7 +5,7 @@ use Rattle.std.proofs.Common.{true≢false, sym, ap, ◌∙◌, refl, inl, inr, 
 use Rattle.std.proofs.lemmas.Bool.Decides.{nat_tests}
 use Rattle.sf_core.specs.Machine.Config.{Item, Frame}
 use Rattle.sf_frame.specs.declared.frame.Frame.{Frame as CodeFrame}
-use Rattle.sf_frame.specs.declared.frame.Todo.{Todo}
+use Rattle.sf_frame.specs.declared.todo.Todo.{Todo}
 use Rattle.sf_frame.specs.Checked.Nexts.{frames_with}
 use Rattle.sf_frame.specs.Frames.{items_of, todo_of, fixed_of, frame_of, frames_of}
 use Rattle.sf_frame.proofs.Stacks.{todo_snoc}

@@ -1,257 +1,44 @@
 -- What the code plans for the event of a command.
 -- Names: `plan_KIND` for each kind of command, `refuse_KIND` where its event is none, `room_LAW` of rooms that come up.
-use Rattle.std.specs.Prelude.{◌≡◌, ◌≢◌, ◌⊎◌, ℕ, ◌+◌, ◌*◌, ◌-◌, ◌<◌, ◌≤◌, Bool, true, false, cond, get_or, List, [], ◌∷◌, ◌++◌, length, map, Option, Some, None, is_some, Result, Ok, Err, IfOk}
+use Rattle.std.specs.Prelude.{◌≡◌, ℕ, ◌+◌, ◌*◌, ◌-◌, ◌<◌, ◌≤◌, Bool, true, false, cond, get_or, List, [], ◌∷◌, length, map, Some, None, Result, Ok, Err, IfOk, OnErr}
 use Rattle.std.specs.List.{slice_get}
-use Rattle.std.specs.FinMap.{get}
-use Rattle.std.specs.Option.{option_copied, option_map}
-use Rattle.std.proofs.Common.{Bor, true≢false, sym, ap, ◌∙◌, refl, inl, inr, arith}
+use Rattle.std.specs.Option.{option_map}
+use Rattle.std.proofs.Common.{true≢false, sym, ap, ◌∙◌, refl, inl, inr, arith}
 use Rattle.std.proofs.lemmas.Bool.Decides.{nat_tests}
 use Rattle.std.proofs.lemmas.Option.{slice_get-map, slice_get_cases}
-use Rattle.sf_base.proofs.Options.{is_some-false}
 use Rattle.sf_base.specs.declared.limits.TheConstants.{OWN_VARIABLES, TURNS}
-use Rattle.sf_base.specs.declared.ids.FieldId.{FieldId}
-use Rattle.sf_base.specs.declared.ids.ResId.{ResId}
-use Rattle.sf_base.specs.declared.value.Value.{Value}
-use Rattle.sf_base.specs.declared.value.Value.TheVariants.{Nil as nil, Loc as loc}
-use Rattle.sf_base.specs.HeapStore.{put_field, Heap, Slot, shared, own, Store}
-use Rattle.sf_core.specs.declared.assertion.Test.{Test}
-use Rattle.sf_core.specs.declared.command.Command.{Command as CodeCommand}
-use Rattle.sf_core.specs.declared.command.Expr.{Expr}
-use Rattle.sf_core.specs.declared.command.Occurrence.{Occurrence}
-use Rattle.sf_core.specs.Assertions.Sat.{IsTrueOf}
-use Rattle.sf_core.specs.Machine.Bad.{IsAbsent}
-use Rattle.sf_core.specs.Machine.Config.{Item, command, leave, Room, in_room, Fixed, runs, waits, Common, evaluate}
-use Rattle.sf_core.specs.Machine.Step.{Event, set_slot, set_cell, open_room, arguments, callee_frame, index_of, procedure_at, room_count, room_for, task_with}
-use Rattle.sf_core.specs.Program.Syntax.{Call, assign, look_up, mutate, new, dispose, if, while, with, Procedure, Program}
-use Rattle.sf_core.specs.Program.View.{block_of}
-use Rattle.sf_heap.specs.Cells.{Cells, FieldValues, cell_of, heap_of}
-use Rattle.sf_frame.specs.declared.effect.Effect.TheVariants.{Nothing, Set, Put, Make, Remove, Hold, Open}
+use Rattle.sf_base.specs.declared.value.Value.TheVariants.{Nil as nil}
+use Rattle.sf_base.specs.HeapStore.{Slot, shared, own, Store}
+use Rattle.sf_core.specs.Machine.Config.{Room, in_room, Fixed, runs, waits, Common}
+use Rattle.sf_core.specs.Machine.Step.{Event, open_room, arguments, callee_frame, index_of, procedure_at, room_count, room_for}
+use Rattle.sf_core.specs.Program.Syntax.{Call, Command, Procedure, Program}
+use Rattle.sf_frame.specs.declared.effect.Effect.TheVariants.{Open}
 use Rattle.sf_frame.specs.declared.effect.Opening.{Opening}
-use Rattle.sf_frame.specs.declared.refusal.Refusal.TheVariants.{Absent, Waiting, Stale, TooDeep}
+use Rattle.sf_frame.specs.declared.refusal.Refusal.TheVariants.{TooDeep}
 use Rattle.sf_frame.specs.declared.frame.Frame.{Frame as CodeFrame}
-use Rattle.sf_frame.specs.declared.frame.GoOn.{GoOn}
 use Rattle.sf_frame.specs.declared.frame.Room.{Room as CodeRoom}
+use Rattle.sf_frame.specs.declared.plan.Plan.{Plan}
 use Rattle.sf_frame.specs.declared.plan.Plan.TheVariants.{Acts, Forks, Refused}
-use Rattle.sf_frame.specs.declared.spot.Spot.{Spot}
-use Rattle.sf_frame.specs.declared.stack.Change.TheVariants.{GoOn as go_on, Call as calls}
-use Rattle.sf_frame.specs.Refusals.{FindsNone}
+use Rattle.sf_frame.specs.declared.stack.Change.TheVariants.{Call as calls}
 use Rattle.sf_frame.specs.Checked.Effects.{opened, opened_store, IsClearStore}
-use Rattle.sf_frame.specs.Checked.Plans.{IsCellAt, IsCellOf, PlansAssign, PlansCall, PlansDispose, PlansFork, PlansIf, PlansLookUp, PlansMutate, PlansNew, PlansWhile, PlansWith}
-use Rattle.sf_frame.specs.Spots.{slot_of}
-use Rattle.sf_frame.specs.Frames.{block_items, frame_of, room_of}
-use Rattle.sf_frame.specs.Checked.Frames.{goes_on, rest_of}
-use Rattle.sf_frame.proofs.Entries.{items_block}
+use Rattle.sf_frame.specs.Checked.Plans.{FitsPlan, PlansCall, PlansFork, TakesRoom}
+use Rattle.sf_frame.specs.Frames.{frame_of, room_of}
 
--- what holds of a value that is there, and makes something else hold of it
-pub ok_map : {A E : Type 0} {P Q : A → Type 0} (r : Result A E) → IfOk r P → ((x : A) → P x → Q x) → IfOk r Q
-ok_map (Ok x) h f = f x h
-ok_map (Err e) h f = tt
+-- what holds anyway holds of a refusal
+pub on_err : {A E P : Type 0} (r : Result A E) → P → OnErr r P
+on_err (Ok x) h = tt
+on_err (Err e) h = h
 
--- the frame goes on with that
-abbrev GoesOn : GoOn → (List Item → List Item) → Type 0
-GoesOn on next = (todo : List Item) → goes_on on todo ≡ next todo
+-- a command whose event may take room may have any plan
+fits_any : (one : Command) (plan : Plan) → TakesRoom one → FitsPlan one plan
+fits_any one (Acts effect change) t = λ h. t
+fits_any one (Forks left right) t = tt
+fits_any one (Refused why) t = tt
 
--- `x = E`
-pub plan_assign : (s : Common) (f : Fixed) (x : Occurrence) (e : Expr) (spot : Spot) (v : Value) (on : GoOn)
-    → is_some (s.store (f.slots x.var)) ≡ true → slot_of spot ≡ f.slots x.var → v ≡ evaluate f.slots s.store e
-    → GoesOn on rest_of → PlansAssign s f x e (Acts (Set spot v) (go_on on))
-plan_assign s f x e spot v on there same is after = λ p ev place below rest. (
-  (
-    λ i. set_slot (same i) (is i) s,
-    λ i. task_with f (after (command (assign place x e) ∷ rest) i) below,
-  ),
-  ap (λ (z : Slot). is_some (s.store z)) same ∙ there,
-  tt,
-)
-
--- `x = E->f`
-pub plan_look_up : (s : Common) (f : Fixed) (x : Occurrence) (e : Expr) (field : FieldId) (spot : Spot)
-    (root v : Value) (values : FieldValues) (on : GoOn) → is_some (s.store (f.slots x.var)) ≡ true
-    → slot_of spot ≡ f.slots x.var → root ≡ evaluate f.slots s.store e → IsCellOf s.heap root values
-    → v ≡ cell_of values field.0 → GoesOn on rest_of → PlansLookUp s f x e field (Acts (Set spot v) (go_on on))
-plan_look_up s f x e field spot root v values on there same is k at after = λ p ev place below rest. (
-  (
-    k.location,
-    cell_of values,
-    record { is = sym is ∙ k.is; there = k.there },
-    λ i. set_slot (same i) (at i) s,
-    λ i. task_with f (after (command (look_up place x e field) ∷ rest) i) below,
-  ),
-  ap (λ (z : Slot). is_some (s.store z)) same ∙ there,
-  tt,
-)
-
--- no cell is where the expression says
-refuse_at : (see : Expr → Value) (heap : Heap) (e : Expr) (root : Value) → root ≡ see e → IsAbsent heap root
-    → FindsNone see heap e (Absent root)
-refuse_at see heap e root is none = (sym is, none)
-
--- a look-up that finds no cell
-pub refuse_look_up : (s : Common) (f : Fixed) (x : Occurrence) (e : Expr) (field : FieldId) (root : Value)
-    → root ≡ evaluate f.slots s.store e → IsAbsent s.heap root → PlansLookUp s f x e field (Refused (Absent root))
-refuse_look_up s f x e field root is none = λ p ev place below rest. refuse_at (evaluate f.slots s.store) s.heap e root is none
-
--- the cell that is there
-cell_there : {X : Type 0} (o : Option X) → is_some o ≡ true → (x : X) × (o ≡ Some x)
-cell_there None h = absurd (true≢false (sym h))
-cell_there (Some x) h = (x, refl)
-
--- `E->f = F`
-pub plan_mutate : (s : Common) (f : Fixed) (e : Expr) (field : FieldId) (v : Expr) (root value : Value) (at : ℕ)
-    (on : GoOn) → root ≡ evaluate f.slots s.store e → IsCellAt s.heap root at → value ≡ evaluate f.slots s.store v
-    → GoesOn on rest_of → PlansMutate s f e field v (Acts (Put at field value) (go_on on))
-plan_mutate s f e field v root value at on is k same after = λ p ev place within below rest.
-    let here = cell_there (s.heap at) k.there in (
-      (
-        at,
-        here.0,
-        record { is = sym is ∙ k.is; there = here.1 },
-        λ i. set_cell at (option_map (λ c. put_field c field.0 (same i)) (here.1 i)) s,
-        λ i. task_with f (after (command (mutate place e field v) ∷ rest) i) below,
-      ),
-      k.there,
-      within,
-    )
-
--- a mutation that finds no cell
-pub refuse_mutate : (s : Common) (f : Fixed) (e : Expr) (field : FieldId) (v : Expr) (root : Value)
-    → root ≡ evaluate f.slots s.store e → IsAbsent s.heap root → PlansMutate s f e field v (Refused (Absent root))
-refuse_mutate s f e field v root is none = λ p ev place within below rest. refuse_at (evaluate f.slots s.store) s.heap e root is none
-
--- no cell is where none was found
-pub none_found : (cells : Cells) (at : ℕ) (r : Option (Bor FieldValues)) → option_copied r ≡ get cells at
-    → is_some r ≡ false → heap_of cells at ≡ None
-none_found cells at r e n = ap (option_map cell_of) (sym e ∙ ap option_copied (is_some-false r n))
-
--- `x = new()`
-pub plan_new : (ev : Event) (s : Common) (f : Fixed) (x : Occurrence) (spot : Spot) (on : GoOn)
-    → is_some (s.store (f.slots x.var)) ≡ true → slot_of spot ≡ f.slots x.var → ev.at ≢ 0 → s.heap ev.at ≡ None
-    → GoesOn on rest_of → PlansNew ev s f x (Acts (Make spot) (go_on on))
-plan_new ev s f x spot on there same above none after = λ p place below rest. (
-  (
-    above,
-    none,
-    λ i. set_slot (same i) (loc ev.at) (set_cell ev.at (Some ev.fields) s),
-    λ i. task_with f (after (command (new place x) ∷ rest) i) below,
-  ),
-  (ap (λ (z : Slot). is_some (s.store z)) same ∙ there, none),
-  tt,
-)
-
--- a `new` at 0, or at a location that is there
-pub refuse_new : (ev : Event) (s : Common) (f : Fixed) (x : Occurrence) → (ev.at ≡ 0) ⊎ (s.heap ev.at ≢ None)
-    → PlansNew ev s f x (Refused Stale)
-refuse_new ev s f x why = λ p place below rest. (refl, why)
-
--- `dispose(E)`
-pub plan_dispose : (s : Common) (f : Fixed) (e : Expr) (root : Value) (at : ℕ) (on : GoOn)
-    → root ≡ evaluate f.slots s.store e → IsCellAt s.heap root at → GoesOn on rest_of
-    → PlansDispose s f e (Acts (Remove at) (go_on on))
-plan_dispose s f e root at on is k after = λ p ev place below rest.
-    let here = cell_there (s.heap at) k.there in (
-      (
-        at,
-        here.0,
-        record { is = sym is ∙ k.is; there = here.1 },
-        refl,
-        λ i. task_with f (after (command (dispose place e) ∷ rest) i) below,
-      ),
-      tt,
-      tt,
-    )
-
--- a dispose that finds no cell
-pub refuse_dispose : (s : Common) (f : Fixed) (e : Expr) (root : Value) → root ≡ evaluate f.slots s.store e
-    → IsAbsent s.heap root → PlansDispose s f e (Refused (Absent root))
-refuse_dispose s f e root is none = λ p ev place below rest. refuse_at (evaluate f.slots s.store) s.heap e root is none
-
--- `if (B) C else D` where B is true
-pub plan_if : (s : Common) (f : Fixed) (test : Test Expr) (this that : List CodeCommand) (on : GoOn)
-    → IsTrueOf (evaluate f.slots s.store) test → GoesOn on (λ todo. block_items this ++ rest_of todo)
-    → PlansIf s f test (block_of this) (block_of that) (Acts Nothing (go_on on))
-plan_if s f test this that on h goes = λ p ev place below rest. (
-  (
-    refl,
-    inl (
-      h,
-      λ i. task_with f ((goes (command (if place test (block_of this) (block_of that)) ∷ rest)
-          ∙ ap (λ (z : List Item). z ++ rest) (items_block this)) i) below,
-    ),
-  ),
-  tt,
-  tt,
-)
-
--- and where it isn't
-pub plan_else : (s : Common) (f : Fixed) (test : Test Expr) (this that : List CodeCommand) (on : GoOn)
-    → (IsTrueOf (evaluate f.slots s.store) test → ⊥) → GoesOn on (λ todo. block_items that ++ rest_of todo)
-    → PlansIf s f test (block_of this) (block_of that) (Acts Nothing (go_on on))
-plan_else s f test this that on h goes = λ p ev place below rest. (
-  (
-    refl,
-    inr (
-      h,
-      λ i. task_with f ((goes (command (if place test (block_of this) (block_of that)) ∷ rest)
-          ∙ ap (λ (z : List Item). z ++ rest) (items_block that)) i) below,
-    ),
-  ),
-  tt,
-  tt,
-)
-
--- `while (B) C` where B is true
-pub plan_while : (s : Common) (f : Fixed) (test : Test Expr) (body : List CodeCommand) (on : GoOn)
-    → IsTrueOf (evaluate f.slots s.store) test → GoesOn on (λ todo. block_items body ++ todo)
-    → PlansWhile s f test (block_of body) (Acts Nothing (go_on on))
-plan_while s f test body on h goes = λ kept p ev place below rest. (
-  (
-    refl,
-    inl (
-      h,
-      λ i. task_with f ((goes (command (while place test kept (block_of body)) ∷ rest)
-          ∙ ap (λ (z : List Item). z ++ (command (while place test kept (block_of body)) ∷ rest)) (items_block body)) i)
-          below,
-    ),
-  ),
-  tt,
-  tt,
-)
-
--- and where it isn't
-pub plan_leave : (s : Common) (f : Fixed) (test : Test Expr) (body : List CodeCommand) (on : GoOn)
-    → (IsTrueOf (evaluate f.slots s.store) test → ⊥) → GoesOn on rest_of
-    → PlansWhile s f test (block_of body) (Acts Nothing (go_on on))
-plan_leave s f test body on h goes = λ kept p ev place below rest. (
-  (
-    refl,
-    inr (h, λ i. task_with f (goes (command (while place test kept (block_of body)) ∷ rest) i) below),
-  ),
-  tt,
-  tt,
-)
-
--- `with r when (B) C`
-pub plan_with : (s : Common) (f : Fixed) (r : ResId) (test : Test Expr) (body : List CodeCommand) (on : GoOn)
-    → s.held r ≡ None → IsTrueOf (evaluate f.slots s.store) test
-    → GoesOn on (λ todo. block_items body ++ (leave r ∷ rest_of todo))
-    → PlansWith s f r test (block_of body) (Acts (Hold r) (go_on on))
-plan_with s f r test body on free h goes = λ p ev place below rest. (
-  (
-    free,
-    h,
-    refl,
-    λ i. task_with f ((goes (command (with place r test (block_of body)) ∷ rest)
-        ∙ ap (λ (z : List Item). z ++ (leave r ∷ rest)) (items_block body)) i) below,
-  ),
-  tt,
-  tt,
-)
-
--- a region that is held, or whose condition is false
-pub refuse_with : (s : Common) (f : Fixed) (r : ResId) (test : Test Expr) (body : List CodeCommand)
-    → (s.held r ≢ None) ⊎ (IsTrueOf (evaluate f.slots s.store) test → ⊥)
-    → PlansWith s f r test (block_of body) (Refused (Waiting r))
-refuse_with s f r test body why = λ p ev place below rest. (refl, why)
+pub ok_fits : {E : Type 0} (one : Command) (r : Result Plan E) → TakesRoom one
+    → IfOk r (FitsPlan one)
+ok_fits one (Ok plan) t = fits_any one plan t
+ok_fits one (Err e) t = tt
 
 -- a procedure of that number is there
 pub procedure_there : {A : Type 0} (v : A → Procedure) (xs : List A) (k : ℕ) → k < length xs

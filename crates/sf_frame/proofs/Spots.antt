@@ -30,10 +30,26 @@ number_test m n =
     let other : (m == n) ≡ (n == m) = grind (arith, nat_tests) in
     sym ties ∙ other
 
+-- and so it does from the one to the other
+number_found : (m n : ℕ) → is_eq (nat_cmp m n) ≡ (m == n)
+number_found m n = sym (unsigned_ties m n)
+
 -- the order finds two slots equal where the test does
-pub spot_test : (s : Spot) (slot : Slot) → is_eq (spots s (spot_of slot)) ≡ same_slot slot (slot_of s)
+pub spot_test : (s : Spot) (slot : Slot) → is_eq (spots s (spot_of slot)) ≡ same_slot slot
+    (slot_of s)
 spot_test (Shared r i) (shared q j) =
     then_test (nat_cmp r.0 q.0) (nat_cmp i j) ∙ (λ k. number_test r.0 q.0 k && number_test i j k)
 spot_test (Shared r i) (own f j) = refl
 spot_test (Own e i) (shared q j) = refl
-spot_test (Own e i) (own f j) = then_test (nat_cmp e f) (nat_cmp i j) ∙ (λ k. number_test e f k && number_test i j k)
+spot_test (Own e i) (own f j) = then_test (nat_cmp e f) (nat_cmp i j)
+    ∙ (λ k. number_test e f k && number_test i j k)
+
+-- and so it does the other way round
+pub spot_found : (s : Spot) (slot : Slot) → is_eq (spots (spot_of slot) s) ≡ same_slot slot
+    (slot_of s)
+spot_found (Shared r i) (shared q j) =
+    then_test (nat_cmp q.0 r.0) (nat_cmp j i) ∙ (λ k. number_found q.0 r.0 k && number_found j i k)
+spot_found (Shared r i) (own f j) = refl
+spot_found (Own e i) (shared q j) = refl
+spot_found (Own e i) (own f j) = then_test (nat_cmp f e) (nat_cmp j i)
+    ∙ (λ k. number_found f e k && number_found j i k)

@@ -1,17 +1,18 @@
 -- Stacks with the top last, and the slots of a frame's own variables.
 -- Names: `KIND_LAW`, where KIND is `todo`, `frames` or `own_slot`.
-use Rattle.std.specs.Prelude.{◌≡◌, ℕ, zero, suc, ◌+◌, ◌-◌, ◌≤◌, ◌<◌, List, [], ◌∷◌, ◌++◌, length, get_or, Result, Ok, Err, IsOk, is_ok, cond}
-use Rattle.std.proofs.Common.{true≢false, sym, ap, ◌∙◌, refl, arith, append_assoc}
+use Rattle.std.specs.Prelude.{◌≡◌, ℕ, zero, suc, ◌+◌, ◌-◌, ◌≤◌, ◌<◌, List, [], ◌∷◌, ◌++◌, length, get_or}
+use Rattle.std.proofs.Common.{sym, ap, ◌∙◌, refl, arith, append_assoc}
 use Rattle.std.proofs.lemmas.List.{append-nil}
 use Rattle.sf_base.specs.HeapStore.{own}
-use Rattle.sf_core.specs.Machine.Config.{Item, Frame}
+use Rattle.sf_core.specs.Machine.Config.{Item, command, leave, Frame}
 use Rattle.sf_frame.specs.declared.frame.Frame.{Frame as CodeFrame}
 use Rattle.sf_frame.specs.declared.frame.Room.{Room as CodeRoom}
-use Rattle.sf_frame.specs.declared.frame.Todo.{Todo}
+use Rattle.sf_frame.specs.declared.frame.Way.TheVariants.{Past}
+use Rattle.sf_frame.specs.declared.todo.Todo.{Todo}
 use Rattle.sf_frame.specs.declared.spot.Spot.{Spot}
 use Rattle.sf_frame.specs.Spots.{slot_of}
 use Rattle.sf_frame.specs.Frames.{own_slot_in, items_of, todo_of, frame_of, frames_of, fixed_of}
-use Rattle.sf_frame.specs.Checked.Frames.{after, rest_of}
+use Rattle.sf_frame.specs.Checked.Frames.{after, goes_on, rest_of}
 
 -- what is pushed is to be done first
 pub todo_snoc : (xs : List Todo) (x : Todo) → todo_of (xs ++ x ∷ []) ≡ items_of x ++ todo_of xs
@@ -44,11 +45,6 @@ own_slot_none (t ∷ ts) room (suc i) l =
 pub frame_same : (f : CodeFrame) (g : Frame) → (frame_of f).fixed ≡ g.fixed → (frame_of f).todo ≡ g.todo → frame_of f ≡ g
 frame_same f g e h = λ i. record { fixed = e i; todo = h i }
 
--- what a push gave where it had room
-pub pushed : {A E X : Type 0} (r : Result A E) (new old more : X) → new ≡ cond (is_ok r) more old → IsOk r → new ≡ more
-pushed (Ok a) new old more e h = e
-pushed (Err x) new old more e h = absurd (true≢false (sym h))
-
 -- a frame that was pushed is that above which the callee runs
 pub called_frames : (callee f g : CodeFrame) (below new : List CodeFrame) → new ≡ below ++ g ∷ []
     → frame_of g ≡ after (frame_of f)
@@ -56,10 +52,16 @@ pub called_frames : (callee f g : CodeFrame) (below new : List CodeFrame) → ne
 called_frames callee f g below new e h =
     ap (λ z. frame_of callee ∷ z) (ap frames_of e ∙ frames_snoc below g ∙ ap (λ z. z ∷ frames_of below) h)
 
--- a frame that did what was first to do is the one after it
-pub after_same : (f : CodeFrame) (g : Frame) (todo : List Item) → g ≡ record { fixed = fixed_of f; todo = todo }
-    → todo ≡ rest_of (todo_of f.todo.items) → g ≡ after (frame_of f)
-after_same f g todo e h = e ∙ (λ i. record { fixed = fixed_of f; todo = h i })
+-- a frame that went past what was first to do is the one after it
+pub after_same : (f : CodeFrame) (g : CodeFrame)
+    → frame_of g ≡ record { fixed = fixed_of f; todo = goes_on Past (todo_of f.todo.items) }
+    → frame_of g ≡ after (frame_of f)
+after_same f g e = e ∙ (λ i. record { fixed = fixed_of f; todo = past (todo_of f.todo.items) i })
+  where
+    past : (todo : List Item) → goes_on Past todo ≡ rest_of todo
+    past [] = refl
+    past (command c ∷ todo) = refl
+    past (leave r ∷ todo) = refl
 
 -- the frames of a stack of one, and of two
 pub frames_one : (f : CodeFrame) (below : List CodeFrame) → below ≡ []

@@ -1,5 +1,6 @@
 -- What is checked and need not be believed: definitions that only proofs and the clauses of inner functions use.
 -- One module for each.
+pub mod Acts
 pub mod Calls
 pub mod Effects
 pub mod Entries
@@ -7,3 +8,4 @@ pub mod Frames
 pub mod Nexts
 pub mod Plans
 pub mod Spots
+pub mod Todos

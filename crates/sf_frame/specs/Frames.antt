@@ -9,8 +9,8 @@ use Rattle.sf_core.specs.Machine.Config.{Item, command, leave, Room, Fixed, Fram
 use Rattle.sf_core.specs.Program.View.{command_of}
 use Rattle.sf_frame.specs.declared.spot.Spot.{Spot}
 use Rattle.sf_frame.specs.Spots.{slot_of}
-use Rattle.sf_frame.specs.declared.frame.Todo.{Todo}
-use Rattle.sf_frame.specs.declared.frame.Todo.TheVariants.{Commands, Leave}
+use Rattle.sf_frame.specs.declared.todo.Todo.{Todo}
+use Rattle.sf_frame.specs.declared.todo.Todo.TheVariants.{Commands, Leave}
 use Rattle.sf_frame.specs.declared.frame.Frame.{Frame as CodeFrame}
 use Rattle.sf_frame.specs.declared.frame.Room.{Room as CodeRoom}
 use Rattle.sf_frame.specs.declared.stack.Stack.{Stack}

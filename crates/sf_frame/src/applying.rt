@@ -7,12 +7,12 @@ ghost use Rattle.sf_foot.specs.Starting.{HasWidth};
 ghost use Rattle.sf_heap.specs.Cells.{cell_of};
 ghost use Rattle.sf_frame.specs.Commons.{common_of, held_of};
 ghost use Rattle.sf_frame.specs.Stamps.{event_of};
-ghost use Rattle.sf_frame.specs.Checked.Effects.{applied, opened_store, HasField, IsClearStore, IsSameCommon, Suits};
+ghost use Rattle.sf_frame.specs.Checked.Effects.{applied, edited, opened_store, EditHasField, HasField, IsClearStore, IsMore, IsSameCommon, Suits, SuitsEdit};
 ghost use Rattle.sf_frame.specs.Spots.{slot_of};
 ghost use Rattle.sf_frame.specs.Stores.{store_of};
 
 use crate::cells::{make_cell, put_field, remove_cell};
-use crate::effect::{Effect, Opening};
+use crate::effect::{Edit, Effect, Opening};
 use crate::rooms::{close, open};
 use crate::shared::Shared;
 use crate::spot::Spot;
@@ -23,8 +23,9 @@ use sf_heap::Cell;
 use std::alloc::AllocError;
 use std::collections::BTreeMap;
 
-/// Makes of what is shared what an event does, a `new` with a cell of those fields. An `Err` says
-/// that memory ran out, and nothing is changed. Cells have as many fields as before.
+/// Makes of what is shared what an event does, a `new` with a cell of those fields. An `Err` comes
+/// only where it is more than an edit: it says that memory ran out, and nothing is changed. Cells
+/// have as many fields as before.
 pub fn apply(
     shared: &mut Shared,
     event: &Stamp,
@@ -36,35 +37,39 @@ pub fn apply(
     ensures ok { OnOk result (IsSameCommon (common_of shared.new)
         (applied (event_of event.now (cell_of fields.now)) effect (common_of shared.old))) }
     ensures err { OnErr result (IsSameCommon (common_of shared.new) (common_of shared.old)) }
+    ensures memory { OnErr result (IsMore effect) }
     ensures width { (count : ℕ) → length fields.now ≡ count → HasWidth count shared.old.heap
         → HasWidth count shared.new.heap }
 {
     match effect {
-        Effect::Nothing => Ok(()),
-        Effect::Set(spot, value) => {
-            set(&mut shared.store, spot, value);
-            Ok(())
-        }
-        Effect::Put(at, field, value) => {
-            put_field(&mut shared.heap, at, field, value);
+        Effect::Edits(one) => {
+            edit(shared, one);
             Ok(())
         }
         Effect::Make(spot) => make(shared, event, fields, spot),
-        Effect::Remove(at) => {
-            remove_cell(&mut shared.heap, at);
-            Ok(())
-        }
         Effect::Hold(r) => hold(&mut shared.held, r, event.task),
-        Effect::Free(r) => {
-            free(&mut shared.held, r);
-            Ok(())
-        }
         Effect::Open(opening) => open(&mut shared.store, opening.room, &opening.values),
         Effect::OpenBoth(one, two) => open_both(&mut shared.store, &one, &two),
-        Effect::Close(room, all) => {
+    }
+}
+
+/// Makes of what is shared what an event does that makes nothing new. It wants no memory. Cells have
+/// as many fields as before.
+pub fn edit(shared: &mut Shared, edit: Edit)
+    requires suits { SuitsEdit edit (common_of shared.old) }
+    requires field { EditHasField edit shared.old.heap }
+    ensures done { IsSameCommon (common_of shared.new) (edited edit (common_of shared.old)) }
+    ensures width { (count : ℕ) → HasWidth count shared.old.heap → HasWidth count shared.new.heap }
+{
+    match edit {
+        Edit::Nothing => {}
+        Edit::Set(spot, value) => set(&mut shared.store, spot, value),
+        Edit::Put(at, field, value) => put_field(&mut shared.heap, at, field, value),
+        Edit::Remove(at) => remove_cell(&mut shared.heap, at),
+        Edit::Free(r) => free(&mut shared.held, r),
+        Edit::Close(room, all) => {
             close(&mut shared.store, room);
             free_all_if(&mut shared.held, all);
-            Ok(())
         }
     }
 }

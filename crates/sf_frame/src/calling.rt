@@ -14,9 +14,10 @@ ghost use Rattle.sf_frame.specs.Frames.{fixed_of, frame_of, room_of};
 
 use crate::effect::Opening;
 use crate::entry::room_count;
-use crate::frame::{Frame, Room, first_todo};
+use crate::frame::{Frame, Room};
 use crate::spot::Spot;
 use crate::store::Store;
+use crate::todo::first_todo;
 use crate::values::evaluate;
 use sf_base::{ProcId, Value};
 use sf_core::{Call, Expr, Occurrence, Program};

@@ -13,27 +13,34 @@ pub struct Opening {
     pub values: Vec<Value>,
 }
 
-/// What an event makes of what is shared.
-#[derive(Drop)]
-pub enum Effect {
+/// What an event makes of what is shared where it makes nothing new: it wants no memory.
+#[derive(Clone, Copy)]
+pub enum Edit {
     /// Nothing.
     Nothing,
     /// A variable that is there gets a value.
     Set(Spot, Value),
     /// A field of the cell at a location gets a value.
     Put(u64, FieldId, Value),
-    /// The event's cell comes up at its location, which a variable that is there gets.
-    Make(Spot),
     /// The cell at a location vanishes.
     Remove(u64),
-    /// The event's task holds a resource.
-    Hold(ResId),
     /// A resource is free.
     Free(ResId),
+    /// A room vanishes, and where it is so every resource is free.
+    Close(Room, bool),
+}
+
+/// What an event makes of what is shared.
+#[derive(Drop)]
+pub enum Effect {
+    /// It makes nothing new.
+    Edits(Edit),
+    /// The event's cell comes up at its location, which a variable that is there gets.
+    Make(Spot),
+    /// The event's task holds a resource.
+    Hold(ResId),
     /// A room comes up.
     Open(Opening),
     /// Two rooms come up, the first one first.
     OpenBoth(Opening, Opening),
-    /// A room vanishes, and where it is so every resource is free.
-    Close(Room, bool),
 }

@@ -6,8 +6,9 @@ ghost use Rattle.sf_core.specs.Program.View.{procedure_of};
 ghost use Rattle.sf_frame.specs.Checked.Entries.{AreEntrySpots};
 ghost use Rattle.sf_frame.specs.Frames.{frame_of};
 
-use crate::frame::{Frame, Room, first_todo};
+use crate::frame::{Frame, Room};
 use crate::spot::Spot;
+use crate::todo::first_todo;
 use sf_base::ProcId;
 use sf_core::Proc;
 use std::alloc::{AllocError, Global};

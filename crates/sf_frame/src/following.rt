@@ -5,8 +5,9 @@ ghost use Rattle.sf_core.specs.Machine.Config.{Frame as F};
 ghost use Rattle.sf_frame.specs.Checked.Nexts.{IsNext};
 ghost use Rattle.sf_frame.specs.Frames.{frame_of, stack_of};
 
-use crate::frame::{Frame, Room, Todo};
+use crate::frame::{Frame, Room};
 use crate::stack::Stack;
+use crate::todo::Todo;
 use sf_base::{ProcId, ResId};
 use sf_core::Command;
 

@@ -3,13 +3,14 @@
 //!
 //! - `spot`: where the store keeps the values of variables.
 //! - `store`, `rooms`: the values of variables by their slots, and rooms of slots that come up.
-//! - `frame`: frames, and what they have still to do. `stack`: the frames of a task.
+//! - `moving`: slots that move between stores.
+//! - `frame`: frames. `todo`: what they have still to do. `stack`: the frames of a task.
 //! - `shared`: the cells, the values of variables, and who holds the resources.
 //! - `look`: where values are looked up. `values`: the values of expressions and tests.
 //! - `entry`: the first frames of a run. `calling`: the frames of callees, and their values.
 //! - `following`: what a stack of frames does next.
 //! - `stamp`: events. `refusal`: why the event of a command is none.
-//! - `plan`: what the event of a command would make, or why it is none.
+//! - `act`: what a command does, or why its event is none. `plan`: what that event would make.
 //! - `effect`, `cells`, `applying`: what an event makes of what is shared.
 //!
 //! `specs/` says which frames of the definitions a `Stack` has (Frames), which common state a
@@ -17,6 +18,7 @@
 //! none (Refusals).
 #![tactic(auto)]
 
+mod act;
 mod applying;
 mod calling;
 mod cells;
@@ -25,6 +27,7 @@ mod entry;
 mod following;
 mod frame;
 mod look;
+mod moving;
 mod plan;
 mod refusal;
 mod rooms;
@@ -33,14 +36,16 @@ mod spot;
 mod stack;
 mod stamp;
 mod store;
+mod todo;
 mod values;
 
-pub use applying::apply;
+pub use act::{Act, act_of};
+pub use applying::{apply, edit};
 pub use calling::Callee;
-pub use effect::{Effect, Opening};
+pub use effect::{Edit, Effect, Opening};
 pub use entry::{entry_frame, init_frame};
 pub use following::{Next, next_of};
-pub use frame::{Frame, GoOn, Room};
+pub use frame::{Frame, Room, Way};
 pub use look::{Both, Look};
 pub use plan::{Plan, plan_command};
 pub use refusal::Refusal;

@@ -1,12 +1,12 @@
 //! The frames of a task.
 
-ghost use Rattle.std.specs.Prelude.{◌≡◌, ◌↔◌, ◌+◌, ◌≤◌, [], ◌∷◌, IsTrue, IfOk, OnOk, vec_len, vec_capacity};
+ghost use Rattle.std.specs.Prelude.{◌≡◌, ◌↔◌, ◌+◌, ◌≤◌, [], ◌∷◌, IsTrue, IfOk, OnErr, OnOk, vec_len, vec_capacity};
 ghost use Rattle.sf_core.specs.Machine.Config.{runs};
 ghost use Rattle.sf_core.specs.Machine.Enabled.{HasEnded};
 ghost use Rattle.sf_frame.specs.Frames.{frame_of, frames_of, stack_of};
-ghost use Rattle.sf_frame.specs.Checked.Frames.{after, frames_left, moved, HasRoom, HasTodoRoom};
+ghost use Rattle.sf_frame.specs.Checked.Frames.{after, frames_left, moved, HasRoom, IsCall};
 
-use crate::frame::{Frame, GoOn};
+use crate::frame::{Frame, Way};
 use std::alloc::{AllocError, Global};
 
 /// The frames of a task: the innermost, and those below it, of which the outermost comes first.
@@ -19,8 +19,8 @@ pub struct Stack<'p> {
 /// What an event makes of the frames of a task.
 #[derive(Drop)]
 pub enum Change<'p> {
-    /// The innermost frame goes on.
-    GoOn(GoOn<'p>),
+    /// The innermost frame goes on that way.
+    GoOn(Way),
     /// A callee's frame comes above, and the one that called it goes on after the call.
     Call(Frame<'p>),
     /// The innermost frame is gone.
@@ -55,53 +55,55 @@ impl<'p> Stack<'p> {
         self.below.as_slice().is_empty() && self.frame.todo.as_slice().is_empty()
     }
 
-    /// Takes room for a change. An `Err` says that memory ran out.
-    pub fn reserve(&mut self) -> Result<(), AllocError>
+    /// Takes room for a change: only a call wants memory, for one frame more. An `Err` says that it
+    /// ran out.
+    pub fn reserve(&mut self, change: &Change<'p>) -> Result<(), AllocError>
         ensures same { stack_of self.new ≡ stack_of self.old }
-        ensures ok { OnOk result (HasRoom self.new) }
+        ensures ok { OnOk result (HasRoom change.now self.new) }
+        ensures memory { OnErr result (IsCall change.now) }
     {
-        self.frame.todo.reserve(2)?;
-        self.below.reserve(1)?;
+        if let Change::Call(_) = change {
+            self.below.reserve(1)?;
+        }
         Ok(())
     }
 
-    /// The stack after its innermost frame did what was first to do.
-    pub fn advanced(self) -> Stack<'p>
-        requires { HasRoom self }
-        ensures { stack_of result ≡ after (frame_of self.entry.frame) ∷ frames_of self.entry.below.items }
+    /// The innermost frame goes on that way. It wants no memory.
+    pub fn advance(&mut self, way: Way)
+        ensures { stack_of self.new ≡ moved (Change.GoOn way) (stack_of self.old) }
     {
-        let Stack { frame, below } = self;
-        Stack {
-            frame: frame.going_on(GoOn::after()),
-            below,
-        }
+        self.frame.go_on(way);
     }
 
-    /// The stack after a change, if a frame is left.
+    /// The stack after its innermost frame went on that way. It wants no memory.
+    pub fn advanced(mut self, way: Way) -> Stack<'p>
+        ensures { stack_of result ≡ moved (Change.GoOn way) (stack_of self.entry) }
+    {
+        self.advance(way);
+        self
+    }
+
+    /// The stack after a change, if a frame is left. It wants no memory.
     pub fn changed(self, change: Change<'p>) -> Option<Stack<'p>>
-        requires { HasRoom self }
+        requires { HasRoom change self }
         ensures { frames_left result ≡ moved change.entry (stack_of self.entry) }
     {
-        let Stack { frame, below } = self;
         match change {
-            Change::GoOn(on) => Some(Stack {
-                frame: frame.going_on(on),
-                below,
-            }),
-            Change::Call(callee) => Some(called(frame, below, callee)),
-            Change::Return => returned(below),
+            Change::GoOn(way) => Some(self.advanced(way)),
+            Change::Call(callee) => Some(called(self.frame, self.below, callee)),
+            Change::Return => returned(self.below),
         }
     }
 }
 
 /// The stack of a callee above those frames, of which the innermost called it.
-fn called<'p>(frame: Frame<'p>, mut below: Vec<Frame<'p>>, callee: Frame<'p>) -> Stack<'p>
-    requires room { HasTodoRoom frame }
-    requires frames { vec_len below + 1 ≤ vec_capacity below }
+fn called<'p>(mut frame: Frame<'p>, mut below: Vec<Frame<'p>>, callee: Frame<'p>) -> Stack<'p>
+    requires { vec_len below + 1 ≤ vec_capacity below }
     ensures { stack_of result ≡ frame_of callee.entry ∷ after (frame_of frame.entry)
         ∷ frames_of below.entry.items }
 {
-    let _ = below.push(frame.going_on(GoOn::after()));
+    frame.go_on(Way::Past);
+    below.push_reserved(frame);
     Stack {
         frame: callee,
         below,

@@ -1,16 +1,11 @@
 -- What is noted in a list of things.
 -- Names: `noted_LAW` speaks of what was added, `room_LAW` of the slots of a room.
-use Rattle.std.specs.Prelude.{◌≡◌, ◌⊎◌, ◌↔◌, ℕ, ◌+◌, true, List, [], ◌∷◌, ◌++◌}
-use Rattle.std.proofs.Common.{sym, ap, subst, inl, inr, arith}
+use Rattle.std.specs.Prelude.{◌≡◌, ◌⊎◌, ◌↔◌, List, [], ◌∷◌, ◌++◌}
+use Rattle.std.proofs.Common.{sym, subst, inl, inr}
 use Rattle.sf_base.specs.declared.ids.Thing.{Thing as CodeThing}
-use Rattle.sf_base.specs.HeapStore.{own}
-use Rattle.sf_core.specs.Machine.Config.{in_room}
-use Rattle.sf_core.specs.Machine.Enabled.{Thing, variable, cell, IsInRoom}
-use Rattle.sf_core.proofs.Machine.InOrder.Names.{in_room-own}
+use Rattle.sf_core.specs.Machine.Enabled.{Thing}
 use Rattle.sf_machine.specs.Accessing.{thing_of, IsListed}
 use Rattle.sf_machine.specs.Checked.Noting.{Notes}
-use Rattle.sf_frame.specs.Checked.Frames.{first_slots}
-use Rattle.sf_frame.proofs.RoomSlots.{room_keeps, room_nowhere, room_splits}
 
 -- a list with one thing more
 listed_snoc : (xs : List CodeThing) (x : CodeThing) (t : Thing)
@@ -62,24 +57,3 @@ noted_by a b P Q n k = λ t. (
   λ h. elim ((n t).0 h) [ inl o ↦ inl o | inr p ↦ inr ((k t).0 p) ],
   λ h. elim h [ inl o ↦ (n t).1 (inl o) | inr q ↦ (n t).1 (inr ((k t).1 q)) ],
 )
-
--- no slot is among none
-pub room_none : (event first : ℕ) (t : Thing) → IsInRoom (first_slots event first 0) t → ⊥
-room_none event first (variable slot) h = room_nowhere event first slot h
-room_none event first (cell location) h = h
-
--- and one slot more
-pub room_more : (event first i : ℕ) (t : Thing)
-    → (IsInRoom (first_slots event first i) t ⊎ (t ≡ variable (own event (first + i))))
-    ↔ IsInRoom (first_slots event first (i + 1)) t
-room_more event first i (variable slot) = (
-  λ h. elim h [
-    | inl k ↦ room_keeps event first i slot k
-    | inr e ↦
-        let same : slot ≡ own event (first + i) = cc in
-        subst (λ z. in_room (first_slots event first (i + 1)) z ≡ true) (sym same)
-        (in_room-own event first (i + 1) i (omega arith))
-  ],
-  λ h. elim (room_splits event first i slot h) [ inl k ↦ inl k | inr e ↦ inr (ap variable e) ],
-)
-room_more event first i (cell location) = (λ h. elim h [ inl k ↦ k | inr e ↦ absurd (cc) ], λ h. absurd h)

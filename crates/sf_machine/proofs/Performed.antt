@@ -7,7 +7,8 @@ use Rattle.std.proofs.Common.{sym, ap, ◌∙◌, refl, arith}
 use Rattle.std.proofs.lemmas.Bool.Decides.{nat_tests}
 use Rattle.sf_core.specs.Machine.Config.{Common}
 use Rattle.sf_frame.specs.Checked.Effects.{IsSameCommon}
-use Rattle.sf_frame.proofs.Spots.{number_test}
+use Rattle.sf_base.proofs.Numbers.{at-is}
+use Rattle.std.specs.Cmp.{nat_eq_equiv}
 
 -- what is the same at each location, slot and resource is one
 pub common_same : (s t : Common) → IsSameCommon s t → s ≡ t
@@ -23,7 +24,7 @@ used_again old more new n fresh h k = λ i q. same q i
     gone : (q : ℕ) (a : Bool) → is_eq (nat_cmp n q) ≡ a
         → cond a false (cond a true (contains nat_cmp old q)) ≡ contains nat_cmp old q
     gone q true e =
-        let test : (q == n) ≡ true = sym (number_test n q) ∙ e in
+        let test : (q == n) ≡ true = sym (at-is n q ∙ nat_eq_equiv.symm n q) ∙ e in
         let same : q ≡ n = grind (arith, nat_tests) in
         sym (ap (contains nat_cmp old) same ∙ fresh)
     gone q false e = refl

@@ -14,7 +14,7 @@ use Rattle.sf_foot.specs.declared.vars.Vars.{Vars}
 use Rattle.sf_foot.specs.Starting.{StartsWith, store_of}
 use Rattle.sf_heap.specs.Cells.{Cells, heap_of}
 use Rattle.sf_machine.specs.Beginning.{Begins}
-use Rattle.sf_machine.specs.Reached.{IsReached}
+use Rattle.sf_machine.specs.Reached.{IsReached, StartsAreReached, StepsAreReached}
 
 -- where a run begins is reached
 pub reached_begin : (p : Program) (f : ProcId) (is_fresh : Bool) (vars : Vars) (heap : Cells)
@@ -51,3 +51,12 @@ reached_step p ev c d r s = record {
   events = r.events ++ ev ∷ [];
   reached = (runs_compose p r.events (ev ∷ []) r.start d).1 (c, r.reached, (d, s, refl));
 }
+
+-- the same as laws
+pub starts_are_reached : StartsAreReached
+unfolding StartsAreReached
+starts_are_reached = reached_begin
+
+pub steps_are_reached : StepsAreReached
+unfolding StepsAreReached
+steps_are_reached = reached_step

@@ -1,7 +1,7 @@
 -- The step of an event: what was planned is its next configuration, or there is none for that reason.
 -- Names: `put_LAW` of the tree of tasks, `going_LAW` of tasks that may go on, `refuses_LAW` of reasons, `plan_KIND` for
 -- each kind of next step.
-use Rattle.std.specs.Prelude.{◌≡◌, ◌≢◌, ℕ, ◌==◌, Bool, true, false, List, [], ◌∷◌, length, Some, None}
+use Rattle.std.specs.Prelude.{◌≡◌, ◌≢◌, ℕ, ◌==◌, Bool, true, false, List, [], ◌∷◌, length, Some}
 use Rattle.std.proofs.Common.{sym, ap, ◌∙◌, refl, subst, inl, inr, arith}
 use Rattle.std.proofs.lemmas.Bool.Decides.{nat_tests}
 use Rattle.std.proofs.lemmas.Option.{same_Some}
@@ -9,27 +9,25 @@ use Rattle.sf_base.proofs.Options.{some-once}
 use Rattle.sf_base.specs.declared.ids.ProcId.{ProcId}
 use Rattle.sf_base.specs.declared.ids.ResId.{ResId}
 use Rattle.sf_base.specs.declared.path.Turn.TheVariants.{Left as left, Right as right}
-use Rattle.sf_core.specs.Machine.Config.{Item, command, leave, Fixed, Frame, Task, runs, waits, Path, Common, Config, task_at, put_task, IsCalled, IsOver, evaluate}
+use Rattle.sf_core.specs.Machine.Config.{Item, command, leave, Fixed, Frame, Task, runs, waits, Path, Common, Config, task_at, put_task, IsCalled, IsOver}
 use Rattle.sf_core.specs.Machine.Enabled.{HasEnded}
-use Rattle.sf_core.specs.declared.command.Expr.{Expr}
-use Rattle.sf_base.specs.HeapStore.{Heap}
-use Rattle.sf_base.specs.declared.value.Value.{Value}
 use Rattle.sf_core.specs.Checked.Machine.InOrder.{IsInOrder}
 use Rattle.sf_core.specs.Checked.Machine.Laws.{ExitsAreOfHeldResources}
 use Rattle.sf_core.specs.Machine.Next.{Next, does, leaves, returns, joins, nothing, next}
 use Rattle.sf_core.specs.Machine.Step.{Event, Step, TaskStep, close_room, free_all_if, task_with}
 use Rattle.sf_core.specs.Program.Init.{sets_up}
-use Rattle.sf_core.specs.Program.Syntax.{Command, assign, look_up, mutate, new, dispose, if, while, call, fork, with, Procedure, Program}
+use Rattle.sf_core.specs.Program.Syntax.{Command, Procedure, Program}
 use Rattle.sf_core.specs.Machine.SpentSteps.{NeedsNoChild}
 use Rattle.sf_core.proofs.Machine.Laws.{exits_are_of_held_resources}
-use Rattle.sf_machine.specs.Answers.{CommandRefuses, FindsNone as AnswersNone, HasToWait as AnswersWait, IsGoing, IsRefused, Refuses}
+use Rattle.sf_machine.specs.Answers.{IsGoing, IsRefused, Refuses, refusal_in}
 use Rattle.sf_frame.specs.declared.effect.Effect.{Effect}
-use Rattle.sf_frame.specs.declared.effect.Effect.TheVariants.{Nothing as no_effect, Free, OpenBoth, Close}
+use Rattle.sf_frame.specs.declared.effect.Edit.TheVariants.{Nothing as no_edit, Free, Close}
+use Rattle.sf_frame.specs.declared.effect.Effect.TheVariants.{Edits, OpenBoth}
 use Rattle.sf_machine.specs.declared.event.Stepped.{Stepped}
 use Rattle.sf_machine.specs.declared.event.Stepped.TheVariants.{Moved, Absent, Waiting, NoTask, Stale, TooDeep}
 use Rattle.sf_machine.specs.declared.following.Next.{Next as Found}
 use Rattle.sf_machine.specs.declared.following.Next.TheVariants.{Does, Leaves, Returns, Joins, Nothing}
-use Rattle.sf_frame.specs.declared.frame.GoOn.{GoOn}
+use Rattle.sf_frame.specs.declared.frame.Way.TheVariants.{Past}
 use Rattle.sf_frame.specs.declared.frame.Room.{Room as CodeRoom}
 use Rattle.sf_machine.specs.declared.plan.Plan.{Plan}
 use Rattle.sf_machine.specs.declared.plan.Plan.TheVariants.{Acts, Refused}
@@ -43,7 +41,8 @@ use Rattle.sf_frame.specs.declared.refusal.Refusal.{Refusal}
 use Rattle.sf_frame.specs.declared.refusal.Refusal.TheVariants.{Absent as absent, Waiting as waiting, Stale as stale, TooDeep as too_deep}
 use Rattle.sf_frame.specs.Checked.Effects.{applied, EffectWithin, Suits}
 use Rattle.sf_frame.specs.Frames.{frame_of}
-use Rattle.sf_frame.specs.Refusals.{FindsNone, HasToWait, Refuses as StackRefuses}
+use Rattle.sf_frame.specs.Refusals.{Refuses as StackRefuses}
+use Rattle.std.specs.Option.{IsSomeAnd}
 use Rattle.sf_machine.specs.Checked.Nexts.{next_by, IsIdle, IsNext}
 use Rattle.sf_frame.specs.Checked.Nexts.{IsNext as IsStackNext}
 use Rattle.sf_frame.specs.declared.following.Next.{Next as StackFound}
@@ -54,7 +53,6 @@ use Rattle.sf_machine.specs.Tasks.{task_of}
 use Rattle.sf_frame.specs.Checked.Plans.{Plans}
 use Rattle.sf_frame.specs.Frames.{room_of}
 use Rattle.sf_machine.specs.Checked.Tasks.{at_path, moved}
-use Rattle.sf_frame.specs.Checked.Frames.{goes_on, rest_of}
 use Rattle.sf_machine.proofs.Enabling.{busy_goes, done_goes}
 
 -- what a task's frames do next it does
@@ -92,40 +90,16 @@ planned_steps p ev c effect change k = record {
 }
 
 -- a reason isn't that there is a next configuration
-command_not_moved : (ev : Event) (s : Common) (f : Fixed) (c : Command) → CommandRefuses ev s f c Moved → ⊥
-command_not_moved ev s f (assign place x e) h = h
-command_not_moved ev s f (look_up place x e g) h = h
-command_not_moved ev s f (mutate place e g v) h = h
-command_not_moved ev s f (new place x) h = let k : Moved ≡ Stale = h.0 in absurd (cc)
-command_not_moved ev s f (dispose place e) h = h
-command_not_moved ev s f (if place test this that) h = h
-command_not_moved ev s f (while place test kept body) h = h
-command_not_moved ev s f (call place c) h = h
-command_not_moved ev s f (fork place c d) h = let k : Moved ≡ TooDeep = h.0 in absurd (cc)
-command_not_moved ev s f (with place r test body) h = h
-
 refuses_not_moved : (ev : Event) (s : Common) (n : Next) → Refuses ev s n Moved → ⊥
-refuses_not_moved ev s (does f below c rest) h = command_not_moved ev s f c h
+refuses_not_moved ev s (does f below c rest) h = h
 refuses_not_moved ev s (leaves f below r rest) h = h
 refuses_not_moved ev s (returns f below) h = h
 refuses_not_moved ev s (joins frames one two) h = h
 refuses_not_moved ev s nothing h = h
 
 -- nor that there is no task
-command_not_none : (ev : Event) (s : Common) (f : Fixed) (c : Command) → CommandRefuses ev s f c NoTask → ⊥
-command_not_none ev s f (assign place x e) h = h
-command_not_none ev s f (look_up place x e g) h = h
-command_not_none ev s f (mutate place e g v) h = h
-command_not_none ev s f (new place x) h = let k : NoTask ≡ Stale = h.0 in absurd (cc)
-command_not_none ev s f (dispose place e) h = h
-command_not_none ev s f (if place test this that) h = h
-command_not_none ev s f (while place test kept body) h = h
-command_not_none ev s f (call place c) h = h
-command_not_none ev s f (fork place c d) h = let k : NoTask ≡ TooDeep = h.0 in absurd (cc)
-command_not_none ev s f (with place r test body) h = h
-
 refuses_not_none : (ev : Event) (s : Common) (n : Next) → Refuses ev s n NoTask → ⊥
-refuses_not_none ev s (does f below c rest) h = command_not_none ev s f c h
+refuses_not_none ev s (does f below c rest) h = h
 refuses_not_none ev s (leaves f below r rest) h = h
 refuses_not_none ev s (returns f below) h = h
 refuses_not_none ev s (joins frames one two) h = h
@@ -202,35 +176,12 @@ pub plan_stale : (p : Program) (ev : Event) (c : Config) (t : Task) → IsGoing 
 plan_stale p ev c t going used =
     refused_answers p ev c Stale (record { task = t; going = going; cause = inl (used, refl) })
 
--- no cell is found, as a refusal says it and as an answer does
-answer_finds : (see : Expr → Value) (heap : Heap) (e : Expr) (why : Refusal) → FindsNone see heap e why
-    → AnswersNone see heap e (answer_of why)
-answer_finds see heap e (absent v) h = h
-answer_finds see heap e (waiting r) h = h
-answer_finds see heap e stale h = h
-answer_finds see heap e too_deep h = h
-
--- a region waits, likewise
-answer_waits : (r : ResId) (held is_false : Type 0) (why : Refusal) → HasToWait r held is_false why
-    → AnswersWait r held is_false (answer_of why)
-answer_waits r held is_false (absent v) h = h
-answer_waits r held is_false (waiting q) h = h
-answer_waits r held is_false stale h = h
-answer_waits r held is_false too_deep h = h
-
--- a command refuses, likewise
-answer_refuses : (ev : Event) (s : Common) (f : Fixed) (c : Command) (why : Refusal) → StackRefuses ev s f c why
-    → CommandRefuses ev s f c (answer_of why)
-answer_refuses ev s f (assign place x e) why h = h
-answer_refuses ev s f (look_up place x e g) why h = answer_finds (evaluate f.slots s.store) s.heap e why h
-answer_refuses ev s f (mutate place e g v) why h = answer_finds (evaluate f.slots s.store) s.heap e why h
-answer_refuses ev s f (new place x) why h = (ap answer_of h.0, h.1)
-answer_refuses ev s f (dispose place e) why h = answer_finds (evaluate f.slots s.store) s.heap e why h
-answer_refuses ev s f (if place test this that) why h = h
-answer_refuses ev s f (while place test kept body) why h = h
-answer_refuses ev s f (call place c) why h = h
-answer_refuses ev s f (fork place c d) why h = (ap answer_of h.0, h.1)
-answer_refuses ev s f (with place r test body) why h = answer_waits r (s.held r ≢ None) _ why h
+-- what a step answers for a reason tells it
+answer_refuses : (P : Refusal → Type 0) (why : Refusal) → P why → IsSomeAnd (refusal_in (answer_of why)) P
+answer_refuses P (absent v) h = h
+answer_refuses P (waiting r) h = h
+answer_refuses P stale h = h
+answer_refuses P too_deep h = h
 
 -- the event of a command
 pub plan_does : (p : Program) (ev : Event) (c : Config) (f : Fixed) (below : List Frame) (one : Command)
@@ -271,7 +222,7 @@ plan_does p ev c f below one rest (refused why) (Refused answer) fresh there h k
     subst (λ (z : Stepped). PlansEvent p ev c (Refused z)) (sym k) (refused_answers p ev c (answer_of why) (record {
       task = task_with f (command one ∷ rest) below;
       going = record { there = there; going = busy_goes ev.task f (command one) rest below; alone = tt };
-      cause = inr (fresh, answer_refuses ev c.common f one why (h below rest));
+      cause = inr (fresh, answer_refuses (StackRefuses ev c.common f one) why (h below rest));
     }))
 plan_does p ev c f below one rest (acts effect change) (Acts e (Fork two three)) fresh there h k = absurd k
 plan_does p ev c f below one rest (acts effect change) (Acts e Join) fresh there h k = absurd k
@@ -285,18 +236,18 @@ plan_does p ev c f below one rest (refused why) (Acts e Join) fresh there h k = 
 
 -- the exit from a region
 pub plan_leaves : (p : Program) (g : Procedure) (ev : Event) (c : Config) (f : Fixed) (below : List Frame) (r : ResId)
-    (rest : List Item) (on : GoOn) → IsInOrder p g c → c.used ev.number ≡ false
+    (rest : List Item) → IsInOrder p g c → c.used ev.number ≡ false
     → task_at ev.task c.tasks ≡ Some (task_with f (leave r ∷ rest) below)
-    → ((todo : List Item) → goes_on on todo ≡ rest_of todo) → PlansEvent p ev c (Acts (Free r) (Steps (go_on on)))
+    → PlansEvent p ev c (Acts (Edits (Free r)) (Steps (go_on Past)))
 unfolding ExitsAreOfHeldResources
-plan_leaves p g ev c f below r rest on o fresh there after = record {
+plan_leaves p g ev c f below r rest o fresh there = record {
   fresh = fresh;
   task = task_with f (leave r ∷ rest) below;
   there = there;
   steps = (
     exits_are_of_held_resources p g c ev.task f below r rest o there,
     refl,
-    λ i. task_with f (after (leave r ∷ rest) i) below,
+    refl,
   );
   suits = tt;
   within = tt;
@@ -314,7 +265,7 @@ pub plan_returns : (p : Program) (ev : Event) (c : Config) (f : Fixed) (below : 
     (room : CodeRoom) (all : Bool) (n : ℕ) → c.used ev.number ≡ false
     → task_at ev.task c.tasks ≡ Some (task_with f [] below) → f.room ≡ room_of room → n ≡ length ev.task
     → ((n == 0) ≡ true → below ≢ []) → f.procedure ≡ g → all ≡ sets_up p g
-    → PlansEvent p ev c (Acts (Close room all) (Steps Return))
+    → PlansEvent p ev c (Acts (Edits (Close room all)) (Steps Return))
 plan_returns p ev c f below g room all n fresh there is e k who so = record {
   fresh = fresh;
   task = task_with f [] below;
@@ -331,7 +282,7 @@ plan_returns p ev c f below g room all n fresh there is e k who so = record {
 -- a join
 pub plan_joins : (p : Program) (ev : Event) (c : Config) (frames : List Frame) (one two : Task)
     → c.used ev.number ≡ false → task_at ev.task c.tasks ≡ Some (waits frames one two) → IsOver one → IsOver two
-    → PlansEvent p ev c (Acts no_effect Join)
+    → PlansEvent p ev c (Acts (Edits no_edit) Join)
 plan_joins p ev c frames one two fresh there a b = record {
   fresh = fresh;
   task = waits frames one two;

@@ -42,7 +42,8 @@ use Rattle.sf_machine.specs.Checked.Firsts.{beginning_at, beginning_with, first_
 use Rattle.sf_machine.specs.Checked.Resources.{counts_of, in_resources, var_at}
 use Rattle.sf_frame.specs.Stores.{store_of as code_store}
 use Rattle.sf_frame.specs.Checked.Frames.{first_slots}
-use Rattle.sf_frame.proofs.Spots.{number_test}
+use Rattle.sf_base.proofs.Numbers.{at-is}
+use Rattle.std.specs.Cmp.{nat_eq_equiv}
 
 -- a resource has few variables
 pub few_at : (rs : List CodeResource) (k : ℕ) (r : CodeResource) → k < length rs
@@ -181,7 +182,7 @@ pub held_more : (old new : BTreeMap ℕ (List Turn)) (n : ℕ) (path : List Turn
     → ((q : ℕ) → get nat_cmp new q ≡ cond (is_at (nat_cmp n) q) (Some path) (get nat_cmp old q)) → path ≡ []
     → (r : ResId) → held_of new r ≡ cond (ltb r.0 (n + 1)) (Some []) None
 held_more old new n path h put is r = put r.0
-    ∙ ap₂ (λ (b : Bool) (z : List Turn). cond b (Some z) (held_of old r)) (number_test n r.0) is
+    ∙ ap₂ (λ (b : Bool) (z : List Turn). cond b (Some z) (held_of old r)) (at-is n r.0 ∙ nat_eq_equiv.symm n r.0) is
     ∙ ap (λ z. cond (r.0 == n) (Some []) z) (h r) ∙ go (r.0 == n) (ltb r.0 n) (ltb r.0 (n + 1))
     (let more : ltb r.0 (n + 1) ≡ ((r.0 == n) || ltb r.0 n) = grind (arith, nat_tests) in more)
   where
@@ -196,7 +197,7 @@ pub used_first : (old new : BTreeSet ℕ) → old.keys ≡ []
     → contains nat_cmp new n ≡ (n == 0)
 used_first old new e h n =
     let none : contains nat_cmp old n ≡ false = ap (λ ks. list_any (is_at (nat_cmp n)) ks) e in
-    h n ∙ (λ k. cond (number_test 0 n k) true (none k)) ∙ chosen (n == 0)
+    h n ∙ (λ k. cond ((at-is 0 n ∙ nat_eq_equiv.symm 0 n) k) true (none k)) ∙ chosen (n == 0)
   where
     chosen : (b : Bool) → cond b true false ≡ b
     chosen true = refl

@@ -1,6 +1,7 @@
 //! Where a run begins.
 
-ghost use Rattle.std.specs.Prelude.{◌≡◌, ◌+◌, ◌<◌, ◌≤◌, ◌*◌, ◌∷◌, [], cond, length, ltb, Some, None, is_some, IfOk, IfSome, slice_get};
+ghost use Rattle.std.specs.Prelude.{◌≡◌, ◌+◌, ◌<◌, ◌≤◌, ◌*◌, ◌∷◌, [], cond, length, ltb, Some, None, is_some, IfOk, IfSome, slice_get, List, ℕ};
+ghost use Rattle.sf_base.specs.declared.ids.ProcId.{ProcId as F};
 ghost use Rattle.sf_base.specs.declared.ids.ResId.{ResId as R};
 ghost use Rattle.sf_base.specs.declared.limits.TheConstants.{OWN_VARIABLES};
 ghost use Rattle.sf_base.specs.HeapStore.{Slot};
@@ -25,6 +26,7 @@ use sf_base::{ProcId, TaskPath};
 use sf_core::Program;
 use sf_foot::{Start, Vars};
 use sf_frame::{Room, Shared, Stack, Store, entry_frame, init_frame, open};
+use sf_heap::Heap;
 use std::alloc::{AllocError, Global};
 use std::collections::{BTreeMap, BTreeSet};
 
@@ -43,6 +45,7 @@ fn own_count(p: &Program, f: ProcId) -> u32
     ensures count { (g : Procedure) → procedure_at (program_of p.now) f ≡ Some g
         → result ≡ length g.names }
     ensures few { result ≤ 2 * OWN_VARIABLES }
+    ensures there { (g : Procedure) × (procedure_at (program_of p.now) f ≡ Some g) }
 {
     p.proc(f).names.len() as u32
 }
@@ -54,6 +57,8 @@ fn first_count(p: &Program, f: ProcId, init: Option<ProcId>) -> u32
     ensures count { (g : Procedure) → procedure_at (program_of p.now) f ≡ Some g
         → result ≡ first_count (beginning_at (program_of p.now) init) g }
     ensures few { result ≤ 4 * OWN_VARIABLES }
+    ensures found { (n : F) → init ≡ Some n
+        → (h : Procedure) × (procedure_at (program_of p.now) n ≡ Some h) }
 {
     let own = own_count(p, f);
     match init {
@@ -125,10 +130,28 @@ fn first_store(alloc: Global, p: &Program, count: u32, vars: &Vars) -> Result<St
     Ok(store)
 }
 
-/// The configuration in which procedure `f` starts, with the variables and cells of a start of it:
-/// where that is fresh, the procedure that sets the resources up runs on top of it, and its task
-/// holds them all. The cells move in, and none is copied. An `Err` says that memory ran out.
+/// The configuration in which procedure `f` starts, with the variables and cells of a start of it,
+/// which are copied: where that is fresh, the procedure that sets the resources up runs on top of it,
+/// and its task holds them all. An `Err` says that memory ran out.
 pub fn begin<'p>(
+    alloc: Global,
+    p: &'p Program,
+    f: ProcId,
+    start: &Start,
+) -> Result<Config<'p>, AllocError>
+    requires { StartsWith (program_of p.now) f start.now.fresh start.now.vars start.now.heap
+        start.now.parts.items }
+    ensures begins { IfOk result (λ c. Begins (program_of p.now) f start.now.fresh start.now.vars
+        start.now.heap (config_of c)) }
+    ensures reached { IfOk result (λ c. IsReached (program_of p.now) (config_of c)) }
+    ensures wide { IfOk result (IsWide (program_of p.now)) }
+{
+    let heap = start.heap.copy()?;
+    begin_on(alloc, p, f, start.fresh, &start.vars, heap)
+}
+
+/// The same configuration, into which the cells of the start move, and none is copied.
+pub fn begin_with<'p>(
     alloc: Global,
     p: &'p Program,
     f: ProcId,
@@ -147,9 +170,27 @@ pub fn begin<'p>(
         fresh,
         ..
     } = start;
+    begin_on(alloc, p, f, fresh, &vars, heap)
+}
+
+/// The configuration with these variables and cells of a start, fresh or not.
+fn begin_on<'p>(
+    alloc: Global,
+    p: &'p Program,
+    f: ProcId,
+    fresh: bool,
+    vars: &Vars,
+    heap: Heap,
+) -> Result<Config<'p>, AllocError>
+    requires { (parts : List (List ℕ)) × StartsWith (program_of p.now) f fresh vars.now heap parts }
+    ensures begins { IfOk result
+        (λ c. Begins (program_of p.now) f fresh vars.now heap (config_of c)) }
+    ensures reached { IfOk result (λ c. IsReached (program_of p.now) (config_of c)) }
+    ensures wide { IfOk result (IsWide (program_of p.now)) }
+{
     let init = first_init(p, fresh);
     let tasks = first_task(alloc, p, f, init)?;
-    let store = first_store(alloc, p, first_count(p, f, init), &vars)?;
+    let store = first_store(alloc, p, first_count(p, f, init), vars)?;
     let held = first_holders(alloc, held_count(p, init))?;
     let mut used = BTreeSet::new(alloc);
     used.insert(0)?;

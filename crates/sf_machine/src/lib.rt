@@ -11,7 +11,8 @@
 //! - `plan`: what an event would make of a configuration, or why it is none.
 //! - `performing`: what an event makes of a configuration.
 //! - `finishing`: whether a run has ended, and what it ends with.
-//! - `stepping`: the step. `laws`: that each answer of it comes exactly where its cause is.
+//! - `stepping`: the step. `laws`: that each answer of it comes exactly where its cause is, and which
+//!   configurations are reached.
 //!
 //! `specs/` says which configuration of the definitions a `Config` is (Configs), with which one a
 //! procedure starts (Beginning), which ones a running program has (Reached), what is said of a
@@ -38,10 +39,12 @@ mod task;
 
 pub use accessed::Accesses;
 pub use accessing::accesses;
-pub use beginning::begin;
+pub use beginning::{begin, begin_with};
 pub use config::Config;
 pub use event::{Event, Stepped};
-pub use laws::{answers_are_exclusive, refused_events_do_not_step};
+pub use laws::{
+    answers_are_exclusive, refused_events_do_not_step, starts_are_reached, steps_are_reached,
+};
 pub use listing::paths;
 pub use missing::absent;
 pub use stepping::step;

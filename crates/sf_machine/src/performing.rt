@@ -36,7 +36,7 @@ pub(crate) fn perform<'p>(
         → HasWidth count c.new.common.heap }
 {
     let path = event.task.turns();
-    c.tasks.reserve_at(path)?;
+    c.tasks.reserve_at(path, &change)?;
     act(&mut c.common, &mut c.used, event, effect)?;
     c.tasks.change_at(path, change);
     Ok(())

@@ -16,7 +16,7 @@ use crate::performing::perform;
 use crate::plan::{Plan, of_stack};
 use crate::task::Change;
 use sf_core::Program;
-use sf_frame::{Change as StackChange, Effect, GoOn, plan_command};
+use sf_frame::{Change as StackChange, Edit, Effect, Way, plan_command};
 use std::alloc::AllocError;
 
 /// Makes the step of an event. `Moved` comes exactly where there is a next configuration for the
@@ -67,14 +67,15 @@ fn plan<'p>(p: &'p Program, c: &Config<'p>, e: &Event) -> Result<Plan<'p>, Alloc
             of_stack(c.common.alloc, plan)
         }
         Next::Leaves(r) => Ok(Plan::Acts(
-            Effect::Free(r),
-            Change::Steps(StackChange::GoOn(GoOn::after())),
+            Effect::Edits(Edit::Free(r)),
+            Change::Steps(StackChange::GoOn(Way::Past)),
         )),
         Next::Returns(g, room) => {
             let all = p.is_init(g);
-            Ok(Plan::Acts(Effect::Close(room, all), Change::Steps(StackChange::Return)))
+            let edit = Edit::Close(room, all);
+            Ok(Plan::Acts(Effect::Edits(edit), Change::Steps(StackChange::Return)))
         }
-        Next::Joins => Ok(Plan::Acts(Effect::Nothing, Change::Join)),
+        Next::Joins => Ok(Plan::Acts(Effect::Edits(Edit::Nothing), Change::Join)),
         Next::Nothing => Ok(Plan::Refused(Stepped::NoTask)),
     }
 }

@@ -4,12 +4,11 @@ ghost use Rattle.std.specs.Prelude.{◌≡◌, ◌↔◌, [], ◌∷◌, Some, N
 ghost use Rattle.std.specs.Option.{option_map};
 ghost use Rattle.sf_core.specs.Machine.Config.{task_at, runs, IsOver};
 ghost use Rattle.sf_frame.specs.Frames.{stack_of};
-ghost use Rattle.sf_frame.specs.Checked.Frames.{HasRoom as HasStackRoom};
 ghost use Rattle.sf_machine.specs.Tasks.{task_of};
-ghost use Rattle.sf_machine.specs.Checked.Tasks.{moved, at_path, HasRoom};
+ghost use Rattle.sf_machine.specs.Checked.Tasks.{moved, at_path, HasRoom, HasRoomIn};
 
 use sf_base::Turn;
-use sf_frame::{Change as StackChange, Stack};
+use sf_frame::{Change as StackChange, Stack, Way};
 use std::alloc::AllocError;
 use std::mem::replace;
 
@@ -60,21 +59,25 @@ impl<'p> Task<'p> {
     }
 
     /// Takes room for a change of the task at the end of a path. An `Err` says that memory ran out.
-    pub(crate) fn reserve_at(&mut self, path: &[Turn]) -> Result<(), AllocError>
+    pub(crate) fn reserve_at(
+        &mut self,
+        path: &[Turn],
+        change: &Change<'p>,
+    ) -> Result<(), AllocError>
         ensures same { task_of self.new ≡ task_of self.old }
-        ensures ok { OnOk result (HasRoom path.now self.new) }
+        ensures ok { OnOk result (HasRoom path.now change.now self.new) }
     {
         match path.split_first() {
-            None => self.reserve(),
+            None => self.reserve(change),
             Some((Turn::Left, rest)) => {
                 if let Task::Waits(_, left, _) = self {
-                    return left.as_mut().reserve_at(rest);
+                    return left.as_mut().reserve_at(rest, change);
                 }
                 Ok(())
             }
             Some((Turn::Right, rest)) => {
                 if let Task::Waits(_, _, right) = self {
-                    return right.as_mut().reserve_at(rest);
+                    return right.as_mut().reserve_at(rest, change);
                 }
                 Ok(())
             }
@@ -82,19 +85,19 @@ impl<'p> Task<'p> {
     }
 
     /// Takes room for a change of this task.
-    fn reserve(&mut self) -> Result<(), AllocError>
+    fn reserve(&mut self, change: &Change<'p>) -> Result<(), AllocError>
         ensures same { task_of self.new ≡ task_of self.old }
-        ensures ok { OnOk result (HasRoom [] self.new) }
+        ensures ok { OnOk result (HasRoom [] change.now self.new) }
     {
         if let Task::Runs(stack) = self {
-            stack.reserve()?;
+            reserve_in(stack, change)?;
         }
         Ok(())
     }
 
     /// Changes the task at the end of a path.
     pub(crate) fn change_at(&mut self, path: &[Turn], change: Change<'p>)
-        requires { HasRoom path.now self.old }
+        requires { HasRoom path.now change self.old }
         ensures { task_of self.new ≡ at_path path.now (moved change.entry) (task_of self.old) }
     {
         match path.split_first() {
@@ -117,7 +120,7 @@ impl<'p> Task<'p> {
 
     /// The task after a change.
     fn changed(self, change: Change<'p>) -> Task<'p>
-        requires { HasRoom [] self }
+        requires { HasRoom [] change self }
         ensures { task_of result ≡ moved change.entry (task_of self.entry) }
     {
         match self {
@@ -131,9 +134,20 @@ impl<'p> Task<'p> {
     }
 }
 
+/// Takes room for a change of the task that runs those frames.
+fn reserve_in<'p>(stack: &mut Stack<'p>, change: &Change<'p>) -> Result<(), AllocError>
+    ensures same { stack_of stack.new ≡ stack_of stack.old }
+    ensures ok { OnOk result (HasRoomIn change.now stack.new) }
+{
+    if let Change::Steps(change) = change {
+        stack.reserve(change)?;
+    }
+    Ok(())
+}
+
 /// The task that ran those frames, after a change.
 fn running<'p>(stack: Stack<'p>, change: Change<'p>) -> Task<'p>
-    requires { HasStackRoom stack }
+    requires { HasRoomIn change stack }
     ensures { task_of result ≡ moved change.entry (runs (stack_of stack.entry)) }
 {
     match change {
@@ -141,7 +155,7 @@ fn running<'p>(stack: Stack<'p>, change: Change<'p>) -> Task<'p>
             Some(stack) => Task::Runs(stack),
             None => Task::Over,
         },
-        Change::Fork(left, right) => Task::Waits(stack.advanced(), left, right),
+        Change::Fork(left, right) => Task::Waits(stack.advanced(Way::Past), left, right),
         Change::Join => Task::Runs(stack),
     }
 }

@@ -13,7 +13,7 @@ mod running;
 use crate::plain::plain_start;
 use crate::programs::program_of_case;
 use crate::running::run;
-use sf_machine::begin;
+use sf_machine::begin_with;
 use std::alloc::{AllocError, Global};
 use std::process::ExitCode;
 use std::{env, io};
@@ -45,7 +45,7 @@ fn made(alloc: Global, case: &str, count: u64) -> Result<u64, AllocError> {
     let Some(start) = plain_start(alloc, &p, f)? else {
         return Ok(0);
     };
-    let c = begin(alloc, &p, f, start)?;
+    let c = begin_with(alloc, &p, f, start)?;
     run(alloc, &p, c, count)
 }
 

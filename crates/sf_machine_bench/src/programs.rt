@@ -17,6 +17,7 @@ fn text_of(case: &str) -> &'static str {
             "keep(x; y) { local z; z = y; x = z; }
             run() { local x; while (true) [] { keep(x; 1); } }"
         }
+        "nested" => "down() { down(); } run() { down(); }",
         "forks" => {
             "leaf() { local x; x = 1; x = 2; }
             run() { while (true) [] { leaf() || leaf(); } }"

@@ -13,7 +13,7 @@ use Rattle.sf_sym.specs.Cells.{atom_at, with_atom, with_cell, without}
 use Rattle.sf_sym.specs.Equalities.{assumed_apart, assumed_equal}
 use Rattle.sf_sym.specs.Fields.{put_term}
 use Rattle.sf_sym.specs.Goal.{Goal, at_state}
-use Rattle.sf_sym.specs.Known.{ends, is_forced, is_nothing}
+use Rattle.sf_sym.specs.Known.{ends, forced_pair, is_nothing}
 use Rattle.sf_sym.specs.State.{State, with_symbols}
 use Rattle.sf_sym.specs.Tests.{differs, is_absurd, same_term}
 
@@ -28,12 +28,12 @@ drop_row g a =
     (Some (at_state g (record g.state { atoms = without g.state.atoms a }) ∷ [])) None)
     (atom_at g.state.atoms a)
 
--- force: a segment or tree whose root can't be a cell of its own, being a constant or a cell of another atom, is
--- empty, so its ends are the same
+-- force: a segment or tree that can only be empty, so that two terms are the same: its ends, where
+-- its root is a constant or a cell of another atom
 abbrev pub force_row : Goal → (a : ℕ) → Option (List Goal)
 force_row g a =
-    option_and_then (λ e. cond (is_forced g.state a e) (Some (assumed_equal e.0 e.1 g ∷ [])) None)
-    (option_and_then ends (atom_at g.state.atoms a))
+    option_map (λ e. assumed_equal e.0 e.1 g ∷ [])
+    (option_and_then (forced_pair g.state a) (atom_at g.state.atoms a))
 
 -- split: two terms are the same, or they differ
 abbrev pub split_row : Goal → (t u : Term) → Option (List Goal)

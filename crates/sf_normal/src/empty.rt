@@ -28,9 +28,9 @@ pub fn drop<'a>(mut goal: Goal<'a>, a: u32) -> Option<Goal<'a>>
     Some(goal)
 }
 
-/// force: the ends of the atom of that number, a segment or tree that can only be empty, are the
-/// same. `None` exactly where it is no such atom, or its ends are one term already. Memory is
-/// wanted only where the ends are two constants; an `Err` means that there is none.
+/// force: two terms of the atom of that number, a segment or tree that can only be empty, are the
+/// same: its ends. `None` exactly where it is no such atom, or they are one term already. Memory is
+/// wanted only where they are two constants; an `Err` means that there is none.
 pub fn force<'a>(mut goal: Goal<'a>, a: u32) -> Result<Option<Goal<'a>>, AllocError>
     ensures { IfOk result (λ left. option_map (λ g. goal_of g ∷ []) left
         ≡ force_row (goal_of goal.entry) a) }
@@ -38,7 +38,7 @@ pub fn force<'a>(mut goal: Goal<'a>, a: u32) -> Result<Option<Goal<'a>>, AllocEr
     let Some(atom) = goal.state.atom(a) else {
         return Ok(None);
     };
-    let Some((t, u)) = goal.state.forced_ends(a, atom) else {
+    let Some((t, u)) = goal.state.forced_pair(a, atom) else {
         return Ok(None);
     };
     goal.assume_equal(t, u)?;

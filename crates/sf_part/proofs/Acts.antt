@@ -32,7 +32,7 @@ room-number room n is (own m i) e =
     (i, ap (λ z. own z i) (same ∙ is))
 
 -- a slot that an event makes has its number
-makes-number : (p : Program) (ev : Event) (what : Next) (slot : Slot)
+pub makes-number : (p : Program) (ev : Event) (what : Next) (slot : Slot)
     → Makes p ev what (variable slot)
     → (i : ℕ) × (slot ≡ own ev.number i)
 makes-number p ev (does f below (assign place x e) rest) slot m = absurd m

@@ -17,7 +17,7 @@ use Rattle.sf_part.specs.Checked.LawsOfGiving.{GivenContentsAreOne}
 use Rattle.sf_part.specs.Given.{is_variable_of}
 
 -- parts of one store that have the same slots have the same values
-given-same : (o q whole : Option Value) → is_some o ≡ is_some q
+pub given-same : (o q whole : Option Value) → is_some o ≡ is_some q
     → ((v : Value) → o ≡ Some v → whole ≡ Some v) → ((v : Value) → q ≡ Some v → whole ≡ Some v)
     → o ≡ q
 given-same None None whole e f g = refl

@@ -1,3 +1,10 @@
+pub mod Ranges
+pub mod Occur
+pub mod Sites
+pub mod Owned
+pub mod Ready
+pub mod Planned
+pub mod Returning
 pub mod Unions
 pub mod Supplies
 pub mod Order
@@ -6,6 +13,7 @@ pub mod Tasks
 pub mod Shares
 pub mod Leads
 pub mod Acts
+pub mod Unmade
 pub mod Beside
 pub mod Private
 pub mod Regions
@@ -14,7 +22,15 @@ pub mod Forks
 pub mod Numbers
 pub mod Firsts
 pub mod Times
+pub mod Performed
+pub mod Held
+pub mod Made
+pub mod Guarded
+pub mod Taking
+pub mod Entries
+pub mod Entrance
 pub mod Seen
 pub mod Giving
+pub mod Lending
 pub mod Worked
 pub mod Law

@@ -25,7 +25,7 @@ stamps_rise p event a b = (
 )
 
 -- stamps that are at most a number are at most a greater one
-logged-later : (low high : ℕ) (log : List Stamped) → low ≤ high
+pub logged-later : (low high : ℕ) (log : List Stamped) → low ≤ high
     → AllByRecursion (λ (e : Stamped). e.stamp ≤ low) log
     → AllByRecursion (λ (e : Stamped). e.stamp ≤ high) log
 logged-later low high [] l h = tt
@@ -42,7 +42,7 @@ noted-none true e h = absurd (true≢false h)
 noted-none false e h = refl
 
 -- an event leaves a part in time that had room for it
-notes-in_time : (clock : ℕ) (log : List Stamped) (event : Event) (a b : TimedPart)
+pub notes-in_time : (clock : ℕ) (log : List Stamped) (event : Event) (a b : TimedPart)
     → Notes clock log event a b
     → AllByRecursion (λ (e : Stamped). e.stamp ≤ clock) log → (a.keeps ≡ false → log ≡ [])
     → clock + suc (length (numbers b.part.supply)) ≤ STEPS → IsInTime b

@@ -5,3 +5,9 @@ pub mod LawsOfTime
 pub mod LawsOfWhole
 pub mod LawsOfGiving
 pub mod Examples
+pub mod Ranges
+pub mod Standing
+pub mod KeepsIsProp
+pub mod Meeting
+pub mod Stepping
+pub mod Taking

@@ -3,4 +3,14 @@ pub mod Steps
 pub mod Supplied
 pub mod First
 pub mod Given
+pub mod Of
+pub mod Lent
+pub mod Stands
+pub mod Keeps
+pub mod Answers
+pub mod Contents
+pub mod Guards
+pub mod Entry
+pub mod Parts
+pub mod PartView
 pub mod Checked

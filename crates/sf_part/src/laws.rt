@@ -2,7 +2,7 @@
 //! step of the machine, and they are a configuration again, whatever the other parts and contents
 //! are. Each function is a law: calling it gives its fact to the caller's proof, and does nothing.
 
-ghost use Rattle.sf_part.specs.Checked.LawsOfGiving.{GivenContentsAreOne};
+ghost use Rattle.sf_part.specs.Checked.LawsOfGiving.{GivenContentsAreOne, LentSharesAreOne};
 ghost use Rattle.sf_part.specs.Checked.Laws.{
   ContentsInAnyOrder,
   EntriesAreSteps,
@@ -100,4 +100,12 @@ pub fn first_parts_are_whole()
 #[tactic(auto, using(crate::proofs::Giving::given_contents_are_one))]
 pub fn given_contents_are_one()
     ensures { GivenContentsAreOne }
+{}
+
+/// What a part lends to the two children of a fork is determined too: of what it has then there is
+/// one way to lend just what their preconditions ask for and their variables, where the
+/// preconditions are determined.
+#[tactic(auto, using(crate::proofs::Lending::lent_shares_are_one))]
+pub fn lent_shares_are_one()
+    ensures { LentSharesAreOne }
 {}

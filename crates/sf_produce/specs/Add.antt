@@ -8,6 +8,7 @@ use Rattle.sf_core.specs.declared.assertion.Operand.{Operand}
 use Rattle.sf_core.specs.declared.assertion.Operand.TheVariants.{Known, Exists}
 use Rattle.sf_core.specs.declared.assertion.Test.TheVariants.{True, Equal, Differ}
 use Rattle.sf_core.specs.Program.Syntax.{Conjunct, holds, points, segment, tree, choose, Conjuncts, none, also}
+use Rattle.sf_produce.specs.declared.operands.TheConstants.{OPERANDS}
 use Rattle.sf_sym.specs.declared.atom.Atom.TheVariants.{Ls, Tree}
 use Rattle.sf_sym.specs.declared.term.Term.{Term}
 use Rattle.sf_sym.specs.declared.term.Term.TheVariants.{Sym}
@@ -107,7 +108,8 @@ add_first s p bindings (also c cs) rest = added s p bindings c cs rest
 abbrev pub add_row : State → Place → Pending → List Item → Option (List Goal)
 add_row s p given rest = option_map (λ g. g ∷ []) (add_first s p given.bindings given.conjuncts rest)
 
--- so many symbols may be new: one for each existential of a cell, and else at most two
+-- so many symbols may be new: one for each existential of a cell, and else as many as any other
+-- conjunct has operands
 abbrev pub operands : Conjuncts Term → ℕ
 operands (also (points q x fs) cs) = one_if_existential x + existentials_in fs
-operands _ = 2
+operands _ = OPERANDS

@@ -10,4 +10,5 @@ pub mod laws;
 mod operands;
 mod rows;
 
+pub use operands::OPERANDS;
 pub use rows::produce;

@@ -10,6 +10,9 @@ use sf_core::Operand;
 use sf_sym::{FieldTerms, Pending, State, Term, term_of};
 use std::alloc::{AllocError, Global};
 
+/// The most operands that a conjunct has which is neither a cell nor a choice.
+pub const OPERANDS: usize = 4;
+
 /// The term of an operand, which is a fresh symbol where it is an existential that is met for the
 /// first time.
 pub(crate) fn met(state: &mut State, given: &mut Pending, x: Operand<Term>) -> Term
@@ -39,7 +42,7 @@ pub(crate) fn met_both(
     x: Operand<Term>,
     y: Operand<Term>,
 ) -> (Term, Term)
-    requires { state.old.next_sym + 2 < 2 ^ 32 }
+    requires { state.old.next_sym + OPERANDS < 2 ^ 32 }
     ensures met { both_of state.new given.new.bindings result
         ≡ met_both state.old given.old.bindings x y }
     ensures conjuncts { given.new.conjuncts ≡ given.old.conjuncts }

@@ -8,7 +8,7 @@ ghost use Rattle.sf_produce.specs.Add.{add_first, added, added_segment, added_tr
 ghost use Rattle.sf_sym.specs.Goal.{goal_of};
 ghost use Rattle.sf_sym.specs.Pending.{existentials_in, one_if_existential, pending_of};
 
-use crate::operands::{met, met_both, met_fields};
+use crate::operands::{OPERANDS, met, met_both, met_fields};
 use sf_base::{FieldId, Place};
 use sf_core::{Conjunct, Operand, Test};
 use sf_sym::{Atom, Goal, Pending, Term, with_add};
@@ -23,7 +23,7 @@ pub fn produce<'a>(
     mut given: Pending,
 ) -> Result<Option<Goal<'a>>, AllocError>
     requires symbols { goal.state.next_sym + operands (pending_of given).conjuncts < 2 ^ 32 }
-    requires both { goal.state.next_sym + 2 < 2 ^ 32 }
+    requires plain { goal.state.next_sym + OPERANDS < 2 ^ 32 }
     requires atoms { goal.state.next_atom + 1 < 2 ^ 32 }
     ensures { IfOk result (λ left. option_map goal_of left
         ≡ add_first goal.entry.state place (pending_of given).bindings
@@ -64,7 +64,7 @@ fn equal<'a>(
     x: Operand<Term>,
     y: Operand<Term>,
 ) -> Result<Goal<'a>, AllocError>
-    requires { goal.state.next_sym + 2 < 2 ^ 32 }
+    requires { goal.state.next_sym + OPERANDS < 2 ^ 32 }
     ensures { IfOk result (λ g. Some (goal_of g) ≡ added goal.entry.state place given.bindings
         (holds place (Equal x y)) (pending_of given).conjuncts (goal_of goal.entry).todo) }
 {
@@ -82,7 +82,7 @@ fn differ<'a>(
     x: Operand<Term>,
     y: Operand<Term>,
 ) -> Result<Goal<'a>, AllocError>
-    requires { goal.state.next_sym + 2 < 2 ^ 32 }
+    requires { goal.state.next_sym + OPERANDS < 2 ^ 32 }
     ensures { IfOk result (λ g. Some (goal_of g) ≡ added goal.entry.state place given.bindings
         (holds place (Differ x y)) (pending_of given).conjuncts (goal_of goal.entry).todo) }
 {
@@ -121,7 +121,7 @@ fn segment<'a>(
     x: Operand<Term>,
     y: Operand<Term>,
 ) -> Result<Goal<'a>, AllocError>
-    requires symbols { goal.state.next_sym + 2 < 2 ^ 32 }
+    requires symbols { goal.state.next_sym + OPERANDS < 2 ^ 32 }
     requires atoms { goal.state.next_atom + 1 < 2 ^ 32 }
     ensures { IfOk result (λ g. goal_of g ≡ added_segment goal.entry.state place given.bindings x y
         (pending_of given).conjuncts (goal_of goal.entry).todo) }

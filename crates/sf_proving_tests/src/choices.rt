@@ -5,8 +5,8 @@ use Front::{Dispose, Finish, Wanted};
 use Part::{AnyCell, Apart, Cell, Ls, Same, Tree, TwiceCell};
 use sf_base::{FieldId, Place, Var};
 use sf_core::{Command, Conjunct, Expr, Links, Occurrence, Operand, Test};
-use sf_search::{Choice, Kind, choose};
-use sf_sym::{Atom, FieldTerms, Goal, Item, Pending, State, Tag, Term};
+use sf_search::{Choice, choose};
+use sf_sym::{Atom, FieldTerms, Goal, Item, Pending, State, Stuck, Tag, Term};
 use std::alloc::{AllocError, Global};
 
 const NIL: Term = Term::Nil;
@@ -199,7 +199,7 @@ fn chosen(alloc: Global, row: Row, commands: &[Command]) -> Result<Choice, Alloc
 fn the_strategy_takes_the_first_rule_that_applies(rt: HostRuntime) -> Result<(), AllocError> {
     let rows = [
         when(&[], &[], &[], Finish, Takes(Tag::End)),
-        when(&[], &[], &[Cell(X, NIL)], Finish, Stays(Kind::Leak)),
+        when(&[], &[], &[Cell(X, NIL)], Finish, Stays(Stuck::Leak)),
         when(
             &[],
             &[],
@@ -251,7 +251,7 @@ fn the_strategy_takes_the_first_rule_that_applies(rt: HostRuntime) -> Result<(),
             Takes(Tag::Force(2)),
         ),
         when(&[], &[], &[Cell(X, NIL)], Dispose, Takes(Tag::Dispose(1))),
-        when(&[], &[], &[], Dispose, Stays(Kind::NoCell)),
+        when(&[], &[], &[], Dispose, Stays(Stuck::NoCell)),
         when(&[], &[], &[Tree(X)], Dispose, Takes(Tag::Split(X, NIL))),
         when(
             &[(X, Y)],
@@ -261,7 +261,7 @@ fn the_strategy_takes_the_first_rule_that_applies(rt: HostRuntime) -> Result<(),
             Takes(Tag::Unroll(2)),
         ),
         when(&[], &[], &[], Wanted(Same(X, X)), Takes(Tag::Same)),
-        when(&[], &[], &[], Wanted(Same(X, Y)), Stays(Kind::NotEqual)),
+        when(&[], &[], &[], Wanted(Same(X, Y)), Stays(Stuck::NotEqual)),
         when(
             &[],
             &[],
@@ -274,7 +274,7 @@ fn the_strategy_takes_the_first_rule_that_applies(rt: HostRuntime) -> Result<(),
             &[],
             &[],
             Wanted(Apart(X, NIL)),
-            Stays(Kind::NotDifferent),
+            Stays(Stuck::NotDifferent),
         ),
         when(
             &[],
@@ -295,21 +295,21 @@ fn the_strategy_takes_the_first_rule_that_applies(rt: HostRuntime) -> Result<(),
             &[],
             &[Cell(X, SEVEN)],
             Wanted(TwiceCell(X)),
-            Stays(Kind::NotEqual),
+            Stays(Stuck::NotEqual),
         ),
         when(
             &[],
             &[],
             &[Cell(X, NIL)],
             Wanted(Cell(X, SEVEN)),
-            Stays(Kind::NotEqual),
+            Stays(Stuck::NotEqual),
         ),
         when(
             &[],
             &[],
             &[Cell(X, NIL)],
             Wanted(Cell(Y, SEVEN)),
-            Stays(Kind::NoAtom),
+            Stays(Stuck::NoAtom),
         ),
         when(&[], &[], &[], Wanted(Ls(X, X)), Takes(Tag::Empty)),
         when(
@@ -345,7 +345,7 @@ fn the_strategy_takes_the_first_rule_that_applies(rt: HostRuntime) -> Result<(),
             &[],
             &[Ls(X, Y)],
             Wanted(Ls(X, Z)),
-            Stays(Kind::EndNotAllocated),
+            Stays(Stuck::EndNotAllocated),
         ),
         when(
             &[(X, Z)],
@@ -359,7 +359,7 @@ fn the_strategy_takes_the_first_rule_that_applies(rt: HostRuntime) -> Result<(),
             &[],
             &[],
             Wanted(Ls(X, NIL)),
-            Stays(Kind::NoAtom),
+            Stays(Stuck::NoAtom),
         ),
         when(
             &[],
@@ -369,7 +369,7 @@ fn the_strategy_takes_the_first_rule_that_applies(rt: HostRuntime) -> Result<(),
             Takes(Tag::Node(1)),
         ),
         when(&[], &[], &[], Wanted(Tree(X)), Takes(Tag::Split(X, NIL))),
-        when(&[(X, NIL)], &[], &[], Wanted(Tree(X)), Stays(Kind::NoAtom)),
+        when(&[(X, NIL)], &[], &[], Wanted(Tree(X)), Stays(Stuck::NoAtom)),
     ];
     let commands = disposal(rt.alloc())?;
     for (i, r) in rows.iter().enumerate() {

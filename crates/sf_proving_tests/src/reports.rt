@@ -4,8 +4,8 @@
 use crate::programs::empty;
 use sf_base::{Place, ProcId};
 use sf_core::{Conjunct, Operand, Program, Test};
-use sf_report::{Stuck, failed, too_large};
-use sf_sym::{Atom, Goal, Item, Pending, State, Term};
+use sf_report::{failed, too_large};
+use sf_sym::{Atom, Goal, Item, Pending, State, Stuck, Term};
 use std::alloc::{AllocError, Global};
 
 /// Hands the part of that number over, if it is there.

@@ -5,7 +5,8 @@ use Rattle.std.proofs.Common.{sym, ap, ◌∙◌, refl, subst, inl, inr, arith}
 use Rattle.std.proofs.lemmas.Bool.{cases_eq}
 use Rattle.sf_base.proofs.Options.{some-none, some-once}
 use Rattle.sf_base.specs.HeapStore.{Cell}
-use Rattle.sf_core.specs.Checked.Machine.Laws.{CommandMakes, CommandMayStop, Makes, MayStop}
+use Rattle.sf_core.specs.Checked.Machine.Laws.{CommandMakes, CommandMayStop, Makes, MayStop, ReachedConfigsAreInOrder}
+use Rattle.sf_core.specs.Checked.Machine.InOrder.{IsInOrder}
 use Rattle.sf_core.specs.Machine.Bad.{Bad}
 use Rattle.sf_core.specs.Machine.Config.{Item, command, leave, Fixed, Task, runs, waits, Config, evaluate, task_at}
 use Rattle.sf_core.specs.Machine.Enabled.{cell, HasEnded, IsBlocked, IsEnabled, IsShut}
@@ -16,17 +17,16 @@ use Rattle.sf_core.specs.Machine.Step.{Event, Step}
 use Rattle.sf_core.specs.Program.Formed.{IsFormed}
 use Rattle.sf_core.specs.Program.Syntax.{Command, assign, look_up, mutate, new, dispose, if, while, call, fork, with, Program}
 use Rattle.sf_core.proofs.Machine.InOrder.Met.{task-may_stop}
+use Rattle.sf_core.proofs.Machine.Laws.{reached_configs_are_in_order}
 use Rattle.sf_core.proofs.Machine.Progress.{enabled-or_stop}
 use Rattle.sf_foot.specs.Starting.{store_of}
 use Rattle.sf_heap.specs.Cells.{heap_of}
 use Rattle.sf_machine.specs.Accessing.{thing_of}
-use Rattle.sf_machine.specs.Answers.{Answers, CommandRefuses, IsGoing, IsRefused, Refuses}
-use Rattle.sf_machine.specs.Reached.{IsReached}
+use Rattle.sf_machine.specs.Answers.{Answers, IsGoing, IsRefused, Refuses}
+use Rattle.sf_machine.specs.Reached.{IsReached, StartsAreReached, StepsAreReached}
 use Rattle.sf_machine.specs.declared.event.Stepped.{Stepped}
 use Rattle.sf_machine.specs.declared.event.Stepped.TheVariants as s
-use Rattle.sf_machine.proofs.Enabling.{in_order}
 use Rattle.sf_machine.specs.Beginning.{Begins}
-use Rattle.sf_machine.proofs.Reaching.{reached_begin, reached_step}
 use Rattle.sf_replay.specs.Checked.Going.{IsBadAt}
 use Rattle.sf_replay.specs.Checked.Laws.{EventsAreReplayed, IsReplayed, SoundRunsAreClean, StartsAreReplayed}
 use Rattle.sf_replay.specs.declared.found.Found.{Found}
@@ -46,6 +46,12 @@ alone-or_not : (t : Task) → Decided (NeedsNoChild t)
 alone-or_not (runs frames) = inl tt
 alone-or_not (waits frames one two) = both-or_not (over-or_not one) (over-or_not two)
 
+-- a configuration that is reached is in order
+in-order : (p : Program) (c : Config) → IsFormed p → (r : IsReached p c) → IsInOrder p r.starts.procedure c
+unfolding ReachedConfigsAreInOrder
+in-order p c formed r =
+    reached_configs_are_in_order p r.procedure r.store r.heap r.start c r.events formed r.starts r.reached
+
 module _ (p : Program) (ev : Event) (c : Config) where
   -- some answer
   abbrev SomeAnswer : Type 0
@@ -57,7 +63,7 @@ module _ (p : Program) (ev : Event) (c : Config) where
 
   -- a command that stops refuses
   refuses-command : (f : Fixed) (one : Command)
-      → ((why : Stepped) → CommandRefuses ev c.common f one why → IsRefused ev c why)
+      → ((why : Stepped) → Refuses ev c.common (does f [] one []) why → IsRefused ev c why)
       → CommandMayStop ev.task c.common f one → SomeAnswer
   refuses-command f (assign place x e) k h = absurd h
   refuses-command f (look_up place x e g) k h =
@@ -82,7 +88,7 @@ module _ (p : Program) (ev : Event) (c : Config) where
 
   -- a command that is shut waits
   refuses-shut : (f : Fixed) (one : Command)
-      → ((why : Stepped) → CommandRefuses ev c.common f one why → IsRefused ev c why)
+      → ((why : Stepped) → Refuses ev c.common (does f [] one []) why → IsRefused ev c why)
       → IsShut c.common.held one → SomeAnswer
   refuses-shut f (assign place x e) k h = absurd h
   refuses-shut f (look_up place x e g) k h = absurd h
@@ -123,7 +129,7 @@ module _ (p : Program) (ev : Event) (c : Config) where
 
   makes-command : (f : Fixed) (one : Command)
       → ((location : ℕ) → CommandMakes p ev one (cell location) → (location ≢ 0) × (c.common.heap location ≡ None))
-      ⊎ CommandRefuses ev c.common f one s.Stale
+      ⊎ Refuses ev c.common (does f [] one []) s.Stale
   makes-command f (assign place x e) = inl (λ location m. absurd m)
   makes-command f (look_up place x e g) = inl (λ location m. absurd m)
   makes-command f (mutate place e g w) = inl (λ location m. absurd m)
@@ -154,7 +160,7 @@ module _ (p : Program) (ev : Event) (c : Config) where
       | inl z ↦ elim (enabled-or_stop p ev c t e fresh z) [
         | inl step ↦ (s.Moved, step)
         | inr h ↦ refuses-stop (next t) (refused fresh)
-            (task-may_stop p reached.starts.procedure c ev.task (in_order p c formed reached) t g.there h)
+            (task-may_stop p reached.starts.procedure c ev.task (in-order p c formed reached) t g.there h)
       ]
     ]
 
@@ -297,25 +303,27 @@ comes-looked : (p : Program) (c : Config) (es : List Event) (o : Option Found)
 comes-looked p c es None m k = k m
 comes-looked p c es (Some found) m k = comes-bad p c es found m
 
-comes-some : (p : Program) (c : Config) (es : List Event) → IsFormed p → IsReached p c → IsReplayed p c es
-comes-some p c [] formed reached =
+comes-some : StepsAreReached → (p : Program) (c : Config) (es : List Event) → IsFormed p → IsReached p c
+    → IsReplayed p c es
+unfolding StepsAreReached
+comes-some steps p c [] formed reached =
     let look = bad-or_not c 0 in
     comes-looked p c [] look.0 look.1
     (λ fine. inl (Clean, record { config = c; within = omega arith; leads = refl; what = fine }))
-comes-some p c (e ∷ es) formed reached =
+comes-some steps p c (e ∷ es) formed reached =
     let look = bad-or_not c 0 in
     let answer = answer-some p e c formed reached in
     comes-looked p c (e ∷ es) look.0 look.1
-    (λ fine. comes-on p c e es (λ d step. comes-some p d es formed (reached_step p e c d reached step)) fine answer.0
+    (λ fine. comes-on p c e es (λ d step. comes-some steps p d es formed (steps p e c d reached step)) fine answer.0
     answer.1)
 
-pub events_are_replayed : EventsAreReplayed
+pub events_are_replayed : StepsAreReached → EventsAreReplayed
 unfolding EventsAreReplayed
-events_are_replayed p start events formed reached = comes-some p start events formed reached
+events_are_replayed steps p start events formed reached = comes-some steps p start events formed reached
 
-pub starts_are_replayed : StartsAreReplayed
-unfolding StartsAreReplayed
-starts_are_replayed p f fresh vars heap parts events formed starts =
+pub starts_are_replayed : StartsAreReached → StepsAreReached → StartsAreReplayed
+unfolding StartsAreReplayed StartsAreReached
+starts_are_replayed begun steps p f fresh vars heap parts events formed starts =
     let c = initial_config starts.beginning p f starts.procedure (store_of starts.beginning starts.procedure vars)
     (heap_of heap) in
     let begins : Begins p f fresh vars heap c = record {
@@ -328,7 +336,7 @@ starts_are_replayed p f fresh vars heap parts events formed starts =
     record {
       start = c;
       begins = begins;
-      what = comes-some p c events formed (reached_begin p f fresh vars heap parts c starts begins refl);
+      what = comes-some steps p c events formed (begun p f fresh vars heap parts c starts begins refl);
     }
 
 -- ---- sound programs

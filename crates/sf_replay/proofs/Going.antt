@@ -12,7 +12,8 @@ use Rattle.sf_core.specs.Machine.Next.{Next, does, leaves, returns, joins, nothi
 use Rattle.sf_core.specs.Machine.Step.{Event, Step}
 use Rattle.sf_core.specs.Program.Syntax.{Command, assign, look_up, mutate, new, dispose, if, while, call, fork, with, Program}
 use Rattle.sf_machine.specs.Accessing.{thing_of}
-use Rattle.sf_machine.specs.Answers.{Answers, CommandRefuses, IsRefused, Refuses}
+use Rattle.sf_frame.specs.declared.refusal.Refusal.TheVariants as refusal
+use Rattle.sf_machine.specs.Answers.{Answers, IsRefused, Refuses}
 use Rattle.sf_machine.specs.Events.{event_of}
 use Rattle.sf_machine.specs.declared.event.Stepped.{Stepped}
 use Rattle.sf_machine.specs.declared.event.Stepped.TheVariants as s
@@ -114,16 +115,16 @@ going-clean p start c all left n e g f =
 
 -- a command that finds no cell is at none
 refuses-command : (ev : Event) (c : Common) (f : Fixed) (one : Command) (v : Value)
-    → CommandRefuses ev c f one (s.Absent v) → IsAtNoCell c (does f [] one [])
+    → Refuses ev c (does f [] one []) (s.Absent v) → IsAtNoCell c (does f [] one [])
 refuses-command ev c f (assign place x e) v h = absurd h
 refuses-command ev c f (look_up place x e g) v h = subst (IsAbsent c.heap) (sym h.0) h.1
 refuses-command ev c f (mutate place e g w) v h = subst (IsAbsent c.heap) (sym h.0) h.1
-refuses-command ev c f (new place x) v h = let k : s.Absent v ≡ s.Stale = h.0 in absurd (cc)
+refuses-command ev c f (new place x) v h = let k : refusal.Absent v ≡ refusal.Stale = h.0 in absurd (cc)
 refuses-command ev c f (dispose place e) v h = subst (IsAbsent c.heap) (sym h.0) h.1
 refuses-command ev c f (if place test this that) v h = absurd h
 refuses-command ev c f (while place test kept body) v h = absurd h
 refuses-command ev c f (call place d) v h = absurd h
-refuses-command ev c f (fork place d e) v h = let k : s.Absent v ≡ s.TooDeep = h.0 in absurd (cc)
+refuses-command ev c f (fork place d e) v h = let k : refusal.Absent v ≡ refusal.TooDeep = h.0 in absurd (cc)
 refuses-command ev c f (with place r test body) v h = absurd h
 
 refuses-at : (ev : Event) (c : Common) (n : Next) (v : Value) → Refuses ev c n (s.Absent v) → IsAtNoCell c n

@@ -1,7 +1,10 @@
 -- What is known of the next step of each task of any configuration.
 -- Names: `listing-WHAT` lists the things of which that holds, `seen-WHAT` is what is known of a step.
-use Rattle.std.specs.Prelude.{◌≡◌, ◌⊎◌, ◌↔◌, ℕ, zero, suc, ◌+◌, List, [], ◌∷◌, ◌++◌, Option, Some, None, MatchOption}
-use Rattle.std.proofs.Common.{sym, ◌∙◌, refl, subst, inl, inr, arith}
+use Rattle.std.specs.Prelude.{◌≡◌, ◌⊎◌, ◌↔◌, ◌≤◌, ◌<◌, ℕ, zero, suc, ◌+◌, true, List, [], ◌∷◌, ◌++◌, Option, Some, None, MatchOption}
+use Rattle.std.proofs.Common.{true≢false, sym, ◌∙◌, refl, subst, inl, inr, arith}
+use Rattle.std.proofs.lemmas.Bool.{cases_eq}
+use Rattle.std.proofs.lemmas.Bool.Decides.{nat_tests}
+use Rattle.sf_core.proofs.Machine.InOrder.Names.{in_room-own}
 use Rattle.sf_base.proofs.Options.{some-once}
 use Rattle.sf_base.specs.declared.ids.Thing.{Thing as CodeThing}
 use Rattle.sf_base.specs.declared.ids.Thing.TheVariants.{Shared, Own, At}
@@ -14,7 +17,7 @@ use Rattle.sf_core.specs.declared.assertion.Test.TheVariants.{True, Equal, Diffe
 use Rattle.sf_core.specs.declared.command.Expr.{Expr}
 use Rattle.sf_core.specs.declared.command.Expr.TheVariants.{Var as Variable, Nil, Int}
 use Rattle.sf_core.specs.Machine.Bad.{Bad, IsAbsent, IsAtNoCell, TouchesNoCell}
-use Rattle.sf_core.specs.Machine.Config.{Room, Task, Path, Common, Config, evaluate, task_at}
+use Rattle.sf_core.specs.Machine.Config.{Room, in_room, Task, Path, Common, Config, evaluate, task_at}
 use Rattle.sf_core.specs.Machine.Enabled.{Thing, variable, cell, CommandReads, CommandWrites, IsCellAt, IsEnabled, IsInRoom, Reads, ReadsAll, ReadsExpr, ReadsTest, Writes}
 use Rattle.sf_core.specs.Machine.Next.{Next, does, leaves, returns, joins, nothing, next}
 use Rattle.sf_core.specs.Program.Syntax.{Command, assign, look_up, mutate, new, dispose, if, while, call, fork, with}
@@ -22,8 +25,6 @@ use Rattle.sf_machine.specs.Absent.{IsAtAbsent}
 use Rattle.sf_machine.specs.Accessing.{IsListed, thing_of}
 use Rattle.sf_frame.specs.Checked.Frames.{first_slots}
 use Rattle.sf_machine.specs.Paths.{paths_of}
-use Rattle.sf_machine.proofs.Enabling.{accesses_none, accesses_of}
-use Rattle.sf_machine.proofs.Notes.{room_more, room_none}
 use Rattle.sf_replay.specs.Checked.Going.{IsBadAt}
 use Rattle.sf_replay.specs.Checked.Looks.{AreLooks, IsLook, Seen, found_in}
 use Rattle.sf_replay.specs.declared.found.Found.{Found}
@@ -139,16 +140,48 @@ listing-command_writes slots store (call place c) = listing-none (λ t. ⊥) (λ
 listing-command_writes slots store (fork place c d) = listing-none (λ t. ⊥) (λ t h. h)
 listing-command_writes slots store (with place r test body) = listing-none (λ t. ⊥) (λ t h. h)
 
+-- no slot is among none
+room-none : (event first : ℕ) (t : Thing) → IsInRoom (first_slots event first 0) t → ⊥
+room-none event first (variable (shared r k)) h = true≢false (sym h)
+room-none event first (variable (own e k)) h =
+    let low : first ≤ k = grind (arith, nat_tests) in
+    let high : k < first + 0 = grind (arith, nat_tests) in
+    absurd (omega (arith, low, high))
+room-none event first (cell location) h = h
+
+-- and one slot more
+room-more : (event first i : ℕ) (t : Thing)
+    → (IsInRoom (first_slots event first i) t ⊎ (t ≡ variable (own event (first + i))))
+    ↔ IsInRoom (first_slots event first (i + 1)) t
+room-more event first i (variable (shared r k)) =
+    (λ h. elim h [ inl k ↦ k | inr e ↦ absurd (cc) ], λ h. absurd (true≢false (sym h)))
+room-more event first i (variable (own e k)) = (
+  λ h. elim h [
+    | inl within ↦ grind (arith, nat_tests)
+    | inr s ↦
+        let same : own e k ≡ own event (first + i) = cc in
+        subst (λ z. in_room (first_slots event first (i + 1)) z ≡ true) (sym same)
+        (in_room-own event first (i + 1) i (omega arith))
+  ],
+  λ h.
+      let here : e ≡ event = grind (arith, nat_tests) in
+      elim (cases_eq k (first + i)) [
+        | inl s ↦ inr (λ j. variable (own (here j) (s j)))
+        | inr n ↦ inl (grind (arith, nat_tests))
+      ],
+)
+room-more event first i (cell location) = (λ h. elim h [ inl k ↦ k | inr e ↦ absurd (cc) ], λ h. absurd h)
+
 listing-first_slots : (event first count : ℕ) → Listing (λ t. IsInRoom (first_slots event first count) t)
 listing-first_slots event first zero =
-    listing-none (λ t. IsInRoom (first_slots event first 0) t) (room_none event first)
+    listing-none (λ t. IsInRoom (first_slots event first 0) t) (room-none event first)
 listing-first_slots event first (suc i) =
     let last = variable (own event (first + i)) in
     let more = listing-either (λ t. IsInRoom (first_slots event first i) t) (λ t. t ≡ last)
     (listing-first_slots event first i) (listing-one last) in
     let plus : Listing (λ t. IsInRoom (first_slots event first (i + 1)) t) =
     listing-same (λ t. IsInRoom (first_slots event first i) t ⊎ (t ≡ last))
-    (λ t. IsInRoom (first_slots event first (i + 1)) t) (room_more event first i) more in
+    (λ t. IsInRoom (first_slots event first (i + 1)) t) (room-more event first i) more in
     let same : i + 1 ≡ suc i = omega arith in
     subst (λ (n : ℕ). Listing (λ t. IsInRoom (first_slots event first n) t)) same plus
 
@@ -223,7 +256,13 @@ seen-enabled c path task e =
       record {
         path_is = refl;
         absent = absent.1;
-        accesses = accesses_of c path task reads.0 writes.0 e reads.1 writes.1;
+        accesses = record {
+          read = λ t en thing. subst (λ (z : Task). IsListed reads.0 thing ↔ Reads c.common.store (next z) thing)
+              (some-once (task_at path c.tasks) task t e.there en.there) (reads.1 thing);
+          written = λ t en thing. subst (λ (z : Task). IsListed writes.0 thing ↔ Writes c.common.store (next z) thing)
+              (some-once (task_at path c.tasks) task t e.there en.there) (writes.1 thing);
+          neither = λ none. absurd (none task e);
+        };
       },
     )
 
@@ -234,7 +273,11 @@ seen-none c path none = (
   record {
     path_is = refl;
     absent = λ v a. none (a.task, a.enabled);
-    accesses = accesses_none c path [] [] (λ task e. none (task, e)) refl refl;
+    accesses = record {
+      read = λ task e thing. absurd (none (task, e));
+      written = λ task e thing. absurd (none (task, e));
+      neither = λ k. (refl, refl);
+    };
   },
 )
 

@@ -22,7 +22,6 @@ use Rattle.sf_machine.specs.Accessing.{thing_of}
 use Rattle.sf_machine.specs.Answers.{Answers, AnswersAreExclusive, RefusedEventsDoNotStep}
 use Rattle.sf_machine.specs.declared.event.Stepped.{Stepped}
 use Rattle.sf_machine.specs.declared.event.Stepped.TheVariants as s
-use Rattle.sf_machine.proofs.Causes.{answers_are_exclusive, refused_events_do_not_step}
 use Rattle.sf_replay.specs.Checked.Laws.{EventsAreReplayedOnce, NoneBadBefore, SafeRunsAreRuns}
 use Rattle.sf_replay.specs.declared.found.Found.{Found}
 use Rattle.sf_replay.specs.declared.found.Found.TheVariants.{Clean, Absent, Race}
@@ -138,18 +137,18 @@ pub race-bad : (c : Config) (path other : Path) (t : Thing) → IsFirstRace c pa
 race-bad c path other t r = inr (conflicts-race c path other t
     (λ e. before-self other (subst (λ (z : Path). path_before z other ≡ true) e r.ordered)) r.conflicts)
 
-no-step : (p : Program) (e : Event) (c d : Config) (why : Stepped) → Answers p e c why → (why ≡ s.Moved → ⊥)
+no-step : RefusedEventsDoNotStep → (p : Program) (e : Event) (c d : Config) (why : Stepped) → Answers p e c why → (why ≡ s.Moved → ⊥)
     → Step p e c d → ⊥
 unfolding RefusedEventsDoNotStep
-no-step p e c d why a m step = refused_events_do_not_step p e c d why a m step
+no-step refused p e c d why a m step = refused p e c d why a m step
 
 cause-moved : (why : Stepped) → IsCause why → why ≡ s.Moved → ⊥
 cause-moved why h e = subst IsCause e h
 
-stuck-ends : (p : Program) (es : List Event) (k : ℕ) (why : Stepped) (c : Config) → IsStuckAt p es k why c
+stuck-ends : RefusedEventsDoNotStep → (p : Program) (es : List Event) (k : ℕ) (why : Stepped) (c : Config) → IsStuckAt p es k why c
     → Ends p es k c
-stuck-ends p es k why c h =
-    inr (inr (h.event, h.there, λ d step. no-step p h.event c d why h.answers (cause-moved why h.cause) step))
+stuck-ends refused p es k why c h =
+    inr (inr (h.event, h.there, λ d step. no-step refused p h.event c d why h.answers (cause-moved why h.cause) step))
 
 clean-ends : (p : Program) (es : List Event) (c : Config) → (Bad c → ⊥) → Ends p es (length es) c
 clean-ends p es c h = inr (inl (omega arith))
@@ -259,44 +258,44 @@ once-found p st es (Race k path other x) (Race j q r y) a b =
     (race-ends p es k path other (thing_of x)) (race-ends p es j q r (thing_of y)) a b in
     ap (λ z. Race z path other x) m.0 ∙ same-race m.1.0 path q other r x y j m.1.1 m.1.2
 
-same-why : (p : Program) (es : List Event) (k j : ℕ) (why other : Stepped) (c : Config) → k ≡ j
+same-why : AnswersAreExclusive → (p : Program) (es : List Event) (k j : ℕ) (why other : Stepped) (c : Config) → k ≡ j
     → IsStuckAt p es k why c → IsStuckAt p es j other c → why ≡ other
 unfolding AnswersAreExclusive
-same-why p es k j why other c e a b =
+same-why exclusive p es k j why other c e a b =
     let event : a.event ≡ b.event =
     same_Some a.event b.event (sym a.there ∙ ap (λ n. slice_get es n) e ∙ b.there) in
-    answers_are_exclusive p b.event c why other (subst (λ (z : Event). Answers p z c why) event a.answers) b.answers
+    exclusive p b.event c why other (subst (λ (z : Event). Answers p z c why) event a.answers) b.answers
 
-once-fault : (p : Program) (st : Config) (es : List Event) (one other : ReplayFault) → Stops p st es one
+once-fault : AnswersAreExclusive → RefusedEventsDoNotStep → (p : Program) (st : Config) (es : List Event) (one other : ReplayFault) → Stops p st es one
     → Stops p st es other → one ≡ other
-once-fault p st es OutOfMemory other a b = absurd a
-once-fault p st es (NotAnEvent k why) OutOfMemory a b = absurd b
-once-fault p st es (NotAnEvent k why) (NotAnEvent j other) a b =
-    let m = same-end p st es k j (IsStuckAt p es k why) (IsStuckAt p es j other) (stuck-ends p es k why)
-    (stuck-ends p es j other) a b in
-    ap₂ NotAnEvent m.0 (same-why p es k j why other m.1.0 m.0 m.1.1 m.1.2)
+once-fault exclusive refused p st es OutOfMemory other a b = absurd a
+once-fault exclusive refused p st es (NotAnEvent k why) OutOfMemory a b = absurd b
+once-fault exclusive refused p st es (NotAnEvent k why) (NotAnEvent j other) a b =
+    let m = same-end p st es k j (IsStuckAt p es k why) (IsStuckAt p es j other) (stuck-ends refused p es k why)
+    (stuck-ends refused p es j other) a b in
+    ap₂ NotAnEvent m.0 (same-why exclusive p es k j why other m.1.0 m.0 m.1.1 m.1.2)
 
-once-apart : (p : Program) (st : Config) (es : List Event) (found : Found) (fault : ReplayFault)
+once-apart : RefusedEventsDoNotStep → (p : Program) (st : Config) (es : List Event) (found : Found) (fault : ReplayFault)
     → Finds p st es found → Stops p st es fault → ⊥
-once-apart p st es found OutOfMemory a b = b
-once-apart p st es Clean (NotAnEvent j why) a b =
+once-apart refused p st es found OutOfMemory a b = b
+once-apart refused p st es Clean (NotAnEvent j why) a b =
     let m = same-end p st es (length es) j (λ c. Bad c → ⊥) (IsStuckAt p es j why) (clean-ends p es)
-    (stuck-ends p es j why) a b in
+    (stuck-ends refused p es j why) a b in
     let within : j < length es = slice_get_within es j m.1.2.event m.1.2.there in
     absurd (omega (arith, m.0, within))
-once-apart p st es (Absent k path v) (NotAnEvent j why) a b =
+once-apart refused p st es (Absent k path v) (NotAnEvent j why) a b =
     let m = (same-end p st es k j (λ c. IsFirstAbsent c path v) (IsStuckAt p es j why) (absent-ends p es k path v)
-    (stuck-ends p es j why) a b).1 in
+    (stuck-ends refused p es j why) a b).1 in
     m.2.fine (absent-bad m.0 path v m.1)
-once-apart p st es (Race k path other x) (NotAnEvent j why) a b =
+once-apart refused p st es (Race k path other x) (NotAnEvent j why) a b =
     let m = (same-end p st es k j (λ c. IsFirstRace c path other (thing_of x)) (IsStuckAt p es j why)
-    (race-ends p es k path other (thing_of x)) (stuck-ends p es j why) a b).1 in
+    (race-ends p es k path other (thing_of x)) (stuck-ends refused p es j why) a b).1 in
     m.2.fine (race-bad m.0 path other (thing_of x) m.1)
 
-pub events_are_replayed_once : EventsAreReplayedOnce
+pub events_are_replayed_once : AnswersAreExclusive → RefusedEventsDoNotStep → EventsAreReplayedOnce
 unfolding EventsAreReplayedOnce
-events_are_replayed_once p start events = record {
+events_are_replayed_once exclusive refused p start events = record {
   found = once-found p start events;
-  faults = once-fault p start events;
-  apart = once-apart p start events;
+  faults = once-fault exclusive refused p start events;
+  apart = once-apart refused p start events;
 }

@@ -126,17 +126,18 @@ pub fn replay(
     alloc: Global,
     p: &Arranged,
     f: ProcId,
-    start: Start,
+    start: &Start,
     events: &Schedule,
 ) -> Result<Found, ReplayFault>
-    requires starts { StartsWith (program_of p.now.program) f start.fresh start.vars start.heap
-        start.parts.items }
+    requires starts { StartsWith (program_of p.now.program) f start.now.fresh start.now.vars
+        start.now.heap start.now.parts.items }
     requires fields { All (IsWide (length p.now.program.fields.items)) events.now }
     ensures { MatchResult result
-        (λ found. FromStart (program_of p.now.program) f start.fresh start.vars start.heap
+        (λ found. FromStart (program_of p.now.program) f start.now.fresh start.now.vars
+        start.now.heap
         (λ c. Finds (program_of p.now.program) c (events_of events.now) found))
         (λ fault. (fault ≡ ReplayFault.OutOfMemory)
-        ⊎ FromStart (program_of p.now.program) f start.fresh start.vars start.heap
+        ⊎ FromStart (program_of p.now.program) f start.now.fresh start.now.vars start.now.heap
         (λ c. Stops (program_of p.now.program) c (events_of events.now) fault)) }
 {
     let mut c = begin(alloc, &p.program, f, start)?;

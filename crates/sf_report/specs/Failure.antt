@@ -10,7 +10,7 @@ use Rattle.sf_core.specs.Program.Syntax.{Procedure, Program}
 use Rattle.sf_sym.specs.Goal.{Goal, Item, run, add, take, gave, head, again, exit, return, end}
 use Rattle.sf_sym.specs.State.{State}
 use Rattle.sf_proof.specs.ProofText.{Text}
-use Rattle.sf_report.specs.declared.stuck.Stuck.{Stuck}
+use Rattle.sf_sym.specs.declared.stuck.Stuck.{Stuck}
 use Rattle.sf_report.specs.Listed.{atoms_listed, pairs_listed}
 use Rattle.sf_report.specs.Pieces.{kind_text, line_text, numbered_text, pair_text, place_text, value_text}
 use Rattle.sf_report.specs.Wanted.{want_text}
@@ -36,13 +36,17 @@ abbrev pub front_place : List Item → Place
 front_place [] = first_place
 front_place (item ∷ todo) = item_place item
 
--- which procedure, and where
-abbrev pub where_text : Program → ProcId → Place → Text
-where_text p f place = codes "failed " ++ name_of p f ++ codes " at " ++ place_text place ++ codes " "
+-- which procedure, and where, after a word with a blank
+abbrev pub where_text : (word : Text) → Program → ProcId → Place → Text
+where_text word p f place = word ++ name_of p f ++ codes " at " ++ place_text place ++ codes " "
 
--- the first line: which procedure, where and why
+-- the first line of a failure: which procedure, where and why
 abbrev pub head_text : Program → ProcId → Place → (why : Text) → Text
-head_text p f place why = where_text p f place ++ why ++ codes "\n"
+head_text p f place why = where_text (codes "failed ") p f place ++ why ++ codes "\n"
+
+-- the line of a goal at which a search had no rule: a word with a blank, which procedure, where and why
+abbrev pub goal_line : (word : Text) → Program → ProcId → Goal → Stuck → Text
+goal_line word p f goal kind = where_text word p f (front_place goal.todo) ++ kind_text kind ++ codes "\n"
 
 -- what a state knows: the variables, the pairs that differ, the parts of the heap, and those that
 -- were handed over
@@ -60,7 +64,7 @@ want_line text = codes "want " ++ text ++ codes "\n"
 -- a goal of that procedure at which a search had no rule
 abbrev pub failure_text : Program → ProcId → Goal → Stuck → Text
 failure_text p f goal kind =
-    head_text p f (front_place goal.todo) (kind_text kind)
+    goal_line (codes "failed ") p f goal kind
     ++ state_text p f goal.state
     ++ want_line (want_text p kind goal.state goal.todo)
 

@@ -11,8 +11,8 @@ use Rattle.sf_sym.specs.declared.atom.Atom.TheVariants.{Points, Ls, Tree}
 use Rattle.sf_sym.specs.declared.atom.Numbered.{Numbered}
 use Rattle.sf_sym.specs.declared.term.Term.{Term}
 use Rattle.sf_proof.specs.ProofText.{Text, term_text}
-use Rattle.sf_report.specs.declared.stuck.Stuck.{Stuck}
-use Rattle.sf_report.specs.declared.stuck.Stuck.TheVariants.{NoCell, NotEqual, NotDifferent, NoAtom, Leak, EndNotAllocated}
+use Rattle.sf_sym.specs.declared.stuck.Stuck.{Stuck}
+use Rattle.sf_sym.specs.declared.stuck.Stuck.TheVariants.{NoCell, NotEqual, NotDifferent, NoAtom, Leak, EndNotAllocated}
 use Rattle.sf_report.specs.Names.{field_text, variable_text}
 
 -- the name of a kind of failure

@@ -19,8 +19,8 @@ use Rattle.sf_sym.specs.Decided.{term_of}
 use Rattle.sf_sym.specs.Goal.{Item, run, take}
 use Rattle.sf_sym.specs.State.{State, term}
 use Rattle.sf_proof.specs.ProofText.{Text, term_text}
-use Rattle.sf_report.specs.declared.stuck.Stuck.{Stuck}
-use Rattle.sf_report.specs.declared.stuck.Stuck.TheVariants.{NotEqual}
+use Rattle.sf_sym.specs.declared.stuck.Stuck.{Stuck}
+use Rattle.sf_sym.specs.declared.stuck.Stuck.TheVariants.{NotEqual}
 use Rattle.sf_report.specs.declared.wanted.Bound.{Bound}
 use Rattle.sf_report.specs.Names.{field_text}
 use Rattle.sf_report.specs.Pieces.{cell_text, segment_text, tree_text}

@@ -5,19 +5,18 @@ ghost use Rattle.sf_base.specs.Results.{Appends};
 ghost use Rattle.sf_core.specs.Program.ProgramView.{program_of};
 ghost use Rattle.sf_sym.specs.Goal.{Item as Thing, goal_of, items_of, todo_of};
 ghost use Rattle.sf_sym.specs.Checked.Items.{is_nothing};
-ghost use Rattle.sf_report.specs.Failure.{failure_text, first_place, front_place, procedure_place, state_text, too_large_text, want_line, where_text};
+ghost use Rattle.sf_report.specs.Failure.{failure_text, first_place, front_place, goal_line, procedure_place, state_text, too_large_text, want_line, where_text};
 ghost use Rattle.sf_report.specs.Pieces.{line_text, numbered_text};
 ghost use Rattle.sf_report.specs.Wanted.{want_text};
 
 use crate::listed::{atoms_listed, pairs_listed};
 use crate::names::put_bytes;
 use crate::pieces::{put_atoms, put_kind, put_numbered, put_pairs, put_place, put_vars};
-use crate::stuck::Stuck;
 use crate::wanted::put_want;
 use sf_base::{Place, ProcId};
 use sf_core::Program;
 use sf_proof::put;
-use sf_sym::{Goal, Item, Numbered, State, peek_item};
+use sf_sym::{Goal, Item, Numbered, State, Stuck, peek_item};
 use std::alloc::{AllocError, Global};
 
 /// The first place of a text.
@@ -58,16 +57,42 @@ fn front_place(todo: &[Item]) -> Place
     }
 }
 
-/// Appends which procedure failed, and where. An `Err` means out of memory.
-fn put_where(text: &mut Vec<u8>, p: &Program, f: ProcId, place: Place) -> Result<(), AllocError>
+/// Appends a word, which ends with a blank, and then which procedure, and where. An `Err` means out
+/// of memory.
+fn put_where(
+    text: &mut Vec<u8>,
+    word: &str,
+    p: &Program,
+    f: ProcId,
+    place: Place,
+) -> Result<(), AllocError>
     ensures { Appends result text.old.items text.new.items
-        (where_text (program_of p.now) f place) }
+        (where_text word.now (program_of p.now) f place) }
 {
-    put(text, "failed ")?;
+    put(text, word)?;
     put_bytes(text, p.name_of(f))?;
     put(text, " at ")?;
     put_place(text, place)?;
     put(text, " ")
+}
+
+/// Appends the line of a goal of that procedure at which a search had no rule, for that reason: a
+/// word, which ends with a blank, the procedure, the place of what is to be done there, and the
+/// reason. An `Err` means out of memory.
+pub fn put_goal_line(
+    text: &mut Vec<u8>,
+    word: &str,
+    p: &Program,
+    f: ProcId,
+    goal: &Goal,
+    kind: Stuck,
+) -> Result<(), AllocError>
+    ensures { Appends result text.old.items text.new.items
+        (goal_line word.now (program_of p.now) f (goal_of goal.now) kind) }
+{
+    put_where(text, word, p, f, front_place(&goal.todo))?;
+    put_kind(text, kind)?;
+    put(text, "\n")
 }
 
 /// Appends the line of what was handed over. An `Err` means out of memory.
@@ -133,9 +158,7 @@ pub fn failed(
         ≡ failure_text (program_of p.now) f (goal_of goal.now) kind) }
 {
     let mut text = Vec::new(alloc);
-    put_where(&mut text, p, f, front_place(&goal.todo))?;
-    put_kind(&mut text, kind)?;
-    put(&mut text, "\n")?;
+    put_goal_line(&mut text, "failed ", p, f, goal, kind)?;
     put_state(&mut text, alloc, p, f, &goal.state)?;
     put_last(&mut text, alloc, p, kind, goal)?;
     Ok(text)
@@ -157,7 +180,7 @@ pub fn too_large(alloc: Global, p: &Program, f: ProcId) -> Result<Vec<u8>, Alloc
     ensures { IfOk result (λ text. text.items ≡ too_large_text (program_of p.now) f) }
 {
     let mut text = Vec::new(alloc);
-    put_where(&mut text, p, f, procedure_place(p, f))?;
+    put_where(&mut text, "failed ", p, f, procedure_place(p, f))?;
     put(&mut text, "TooLarge\n")?;
     Ok(text)
 }

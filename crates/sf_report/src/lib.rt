@@ -1,6 +1,5 @@
 //! The text of a failed obligation: the goal at which a search for a proof had no rule.
 //!
-//! - `stuck`: why a search has no rule at a goal.
 //! - `names`: how variables and fields are named.
 //! - `pieces`: how places, variables, pairs and parts of the heap are written.
 //! - `laws`: what holds of these lists.
@@ -14,8 +13,8 @@ pub mod laws;
 mod listed;
 mod names;
 mod pieces;
-mod stuck;
 mod wanted;
 
-pub use failure::{failed, too_large};
-pub use stuck::Stuck;
+pub use failure::{failed, put_goal_line, too_large};
+pub use names::put_variable;
+pub use wanted::{address, misfit_at, term};

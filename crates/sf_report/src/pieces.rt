@@ -6,12 +6,11 @@ ghost use Rattle.sf_core.specs.Program.ProgramView.{program_of};
 ghost use Rattle.sf_report.specs.Pieces.{joined, kind_text, known_text, line_text, numbered_text, pair_text, place_text, shape_text, value_text};
 
 use crate::names::{put_bytes, put_field, put_variable};
-use crate::stuck::Stuck;
 use itoa::Buffer;
 use sf_base::{FieldId, Place, ProcId, Var};
 use sf_core::Program;
 use sf_proof::{put, put_term};
-use sf_sym::{Atom, Numbered, Term};
+use sf_sym::{Atom, Numbered, Stuck, Term};
 use std::alloc::AllocError;
 
 /// Appends the name of a kind. An `Err` means out of memory.

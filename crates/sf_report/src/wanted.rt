@@ -15,13 +15,12 @@ ghost use Rattle.sf_report.specs.Pieces.{joined};
 ghost use Rattle.sf_report.specs.Wanted.{address, address_text, at_conjunct, conjunct_text, first_cell, first_text, misfit_at, misfit_text, operand_text, scope_of, test_text, want_text, wanted_text};
 
 use crate::names::{name_at, put_bytes, put_field};
-use crate::stuck::Stuck;
 use itoa::Buffer;
 use sf_base::{FieldId, Name};
 use sf_consume::{Met, Misfit, first_misfit};
 use sf_core::{Command, Conjunct, Expr, Operand, Program, Test};
 use sf_proof::{put, put_term};
-use sf_sym::{Item, Numbered, Pending, State, Term, peek_item, term_of};
+use sf_sym::{Item, Numbered, Pending, State, Stuck, Term, peek_item, term_of};
 use std::alloc::{AllocError, Global};
 
 /// What existentials stand for, and their names.
@@ -151,7 +150,7 @@ fn first_cell(atoms: &[Numbered], t: Term) -> Option<&[(FieldId, Term)]>
 
 /// What meets in the first field that doesn't fit the first cell there. `None` exactly where there
 /// is no cell or all its fields fit; an `Err` means out of memory.
-fn misfit_at(
+pub fn misfit_at(
     alloc: Global,
     s: &State,
     bindings: &[Option<Term>],
@@ -262,7 +261,7 @@ fn put_first(
 }
 
 /// The expression at whose value a command wants a cell.
-fn address(c: &Command) -> Option<Expr>
+pub fn address(c: &Command) -> Option<Expr>
     ensures { result ≡ address (command_of c.now) }
 {
     match c {
@@ -274,7 +273,7 @@ fn address(c: &Command) -> Option<Expr>
 }
 
 /// The term of an expression.
-fn term(s: &State, e: Expr) -> Term
+pub fn term(s: &State, e: Expr) -> Term
     ensures { result ≡ term s.now.vars e }
 {
     match e {

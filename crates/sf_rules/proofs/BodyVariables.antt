@@ -40,9 +40,9 @@ use Rattle.sf_rules.specs.Checked.LawsOfShape.{IsSetUp}
 use Rattle.sf_rules.specs.Checked.Lemmas.FirstVariables.{nils-all, own-listed, symbols-all}
 use Rattle.sf_rules.specs.Checked.Lemmas.TodoReads.{adding-reads, run-reads}
 use Rattle.sf_rules.specs.Checked.Lemmas.VariableTerms.{all-listed, all-listed_here}
-use Rattle.sf_rules.specs.First.{first_goal, links_of, nil_for, nils, own_vars, symbols, variables_of, with_held}
+use Rattle.sf_rules.specs.First.{first_goal, links_of, nil_for, nils, own_vars, symbols, with_held}
 use Rattle.sf_rules.specs.HasVariables.{BlockReadsIn, HasNone, HasVariables, WholeReadsIn, with_those}
-use Rattle.sf_rules.specs.Rows.Regions.{variables_from}
+use Rattle.sf_rules.specs.Resources.{variables_from, variables_of}
 use Rattle.sf_rules.specs.Setting.{Setting}
 use Rattle.sf_sym.specs.declared.term.Term.{Term}
 use Rattle.sf_sym.specs.Goal.{Item, return, to_run}

@@ -19,7 +19,7 @@ use Rattle.sf_sym.specs.Goal.{Item, one_goal, run, to_run}
 use Rattle.sf_sym.specs.declared.term.Term.{Term}
 use Rattle.sf_sym.specs.Pending.{Given, before, conjuncts_of, pending_of, with_branch}
 use Rattle.sf_sym.specs.State.{State, term}
-use Rattle.sf_rules.specs.Rows.Branches.{branch_row, chosen}
+use Rattle.sf_rules.specs.Checked.Rows.Branches.{branch_row, chosen}
 use Rattle.sf_rules.proofs.Items.{to_run_of}
 
 -- conjuncts one after the other

@@ -25,9 +25,10 @@ use Rattle.sf_sym.specs.Goal.{Goal, Item, gave, one_goal, run}
 use Rattle.sf_sym.specs.State.{State, with_symbols}
 use Rattle.sf_sym.specs.Variables.{fresh_for}
 use Rattle.sf_rules.specs.declared.few.TheConstants.{TOO_MANY}
-use Rattle.sf_rules.specs.Few.{if_few}
-use Rattle.sf_rules.specs.Rows.Calls.{call_row, called, called_with, fork_row, forked, forked_with, term_after, term_before}
-use Rattle.sf_rules.specs.Rows.Front.{at_command}
+use Rattle.sf_rules.specs.Checked.Few.{if_few}
+use Rattle.sf_rules.specs.Checked.Rows.Calls.{call_row, called, called_with, fork_row, forked, forked_with}
+use Rattle.sf_rules.specs.Callee.{term_after, term_before}
+use Rattle.sf_rules.specs.Checked.Rows.Front.{at_command}
 use Rattle.sf_rules.specs.Setting.{Setting, setting_of}
 use Rattle.sf_rules.specs.Words.{to_add, to_take}
 

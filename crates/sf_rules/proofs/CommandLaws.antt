@@ -18,7 +18,8 @@ use Rattle.sf_core.specs.declared.command.Occurrence.{Occurrence}
 use Rattle.sf_core.specs.Machine.Step.{Finds}
 use Rattle.sf_core.specs.Program.Syntax.{Command, assign, look_up, mutate, new, dispose}
 use Rattle.sf_rules.specs.Checked.LawsOfCommands.{Executed, FindsCell, before_command, heap_with, AssignFollowsEvent, LookFollowsEvent, MutateFollowsEvent, NewFollowsEvent, DisposeFollowsEvent}
-use Rattle.sf_rules.specs.Rows.Commands.{looked, with_var}
+use Rattle.sf_rules.specs.Checked.Rows.Commands.{looked}
+use Rattle.sf_rules.specs.Rules.{with_var}
 use Rattle.sf_sym.specs.Checked.Lemmas.AtomLists.{at-all, at-cell, atoms-in_place, atoms-one_more, atoms-out, with_fields-all, without-all}
 use Rattle.sf_sym.specs.Checked.Lemmas.Below.{below-symbol, paired-weaker, pairs-weaker, put-all}
 use Rattle.sf_sym.specs.Checked.Lemmas.CellFields.{field-all, field-value, put-known, put-written}
@@ -37,10 +38,10 @@ use Rattle.sf_sym.specs.Goal.{Item, run, add, take, gave, head, again, exit, ret
 use Rattle.sf_sym.specs.Holds.{term_value, AtomsHold, AddsHold}
 use Rattle.sf_sym.specs.HoldsIn.{HoldsIn}
 use Rattle.sf_sym.specs.Checked.Laws.{Follows, HoldsStill}
-use Rattle.sf_sym.specs.Ready.{AreInOrder, HasOrder, HasValue, IsIn, is_listed, value_at, with_variable}
+use Rattle.sf_sym.specs.Ready.{HasOrder, HasValue, IsIn, is_listed, value_at, with_variable}
 use Rattle.sf_sym.specs.Shape.{HasShape, IsBody}
 use Rattle.sf_sym.specs.State.{State, term, with_symbols}
-use Rattle.sf_sym.specs.Variables.{set_var}
+use Rattle.sf_sym.specs.Variables.{AreInOrder, set_var}
 
 -- commands assume nothing, so no heap is needed for it
 body-empty : (w : ℕ → Value) (items : List Item) (heap : Heap) → IsBody items → IsEmpty heap → AddsHold w items heap

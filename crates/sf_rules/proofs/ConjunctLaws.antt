@@ -23,7 +23,7 @@ use Rattle.sf_produce.specs.Add.{add_row, operands}
 use Rattle.sf_produce.specs.Checked.Laws.{AddKeepsGoals, HoldsAssumed, assuming}
 use Rattle.sf_rules.specs.Checked.Lemmas.{few-left}
 use Rattle.sf_rules.specs.Checked.LawsOfConjuncts.{AssumeKeepsGoals, AssumedBranchKeepsGoals, HandsOn, LeftToShow, ShownBranchLeavesRest, SubtractionLeavesRest, showing, still_showing}
-use Rattle.sf_rules.specs.Rows.Branches.{chosen}
+use Rattle.sf_rules.specs.Checked.Rows.Branches.{chosen}
 use Rattle.sf_sym.specs.Below.{AllInPending, AreBelow, IsBelow}
 use Rattle.sf_sym.specs.Decided.{is_decided, test_of_terms}
 use Rattle.sf_sym.specs.declared.term.Term.{Term}

@@ -20,10 +20,10 @@ use Rattle.sf_sym.specs.Goal.{Goal, Item, return, to_run}
 use Rattle.sf_sym.specs.State.{State, term}
 use Rattle.sf_calls.specs.Sets.{AreSetsOf, IsEarlierResource, Sets}
 use Rattle.sf_core.specs.Machine.HasThroughout.{HasThroughout}
-use Rattle.sf_rules.specs.First.{first_goal, first_state_of, state_by, variables_of}
+use Rattle.sf_rules.specs.First.{first_goal, first_state_of, state_by}
+use Rattle.sf_rules.specs.Resources.{variables_of, variables_from}
 use Rattle.sf_rules.specs.Setting.{Setting, setting_of}
 use Rattle.sf_rules.specs.Words.{to_add}
-use Rattle.sf_rules.specs.Rows.Regions.{variables_from}
 use Rattle.sf_rules.proofs.RegionRows.{length_variables}
 use Rattle.std.proofs.lemmas.List.Sums.{get_or-le-sum_by}
 use Rattle.std.proofs.lemmas.Option.{get_or_from_slice_get, slice_get_within}

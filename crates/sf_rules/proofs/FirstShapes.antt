@@ -19,10 +19,10 @@ use Rattle.sf_calls.specs.Checked.Laws.{HeldResourcesAreThere}
 use Rattle.sf_calls.specs.Sets.{AreSetsOf, IsEarlierResource}
 use Rattle.sf_core.specs.Program.Formed.{IsFormed}
 use Rattle.sf_core.specs.Program.Init.{is_init}
-use Rattle.sf_core.specs.Program.Syntax.{Assertion, Procedure, Resource}
+use Rattle.sf_core.specs.Program.Syntax.{Procedure, Resource}
 use Rattle.sf_precise.specs.Annotations.{owed}
-use Rattle.sf_rules.specs.First.{first_goal, first_state_of, links_of, nils, own_vars, symbols, variables_of, with_held}
-use Rattle.sf_rules.specs.Rows.Regions.{variables_from}
+use Rattle.sf_rules.specs.First.{first_goal, first_state_of, links_of, nils, own_vars, symbols, with_held}
+use Rattle.sf_rules.specs.Resources.{variables_of, variables_from}
 use Rattle.sf_rules.specs.Setting.{Setting}
 use Rattle.sf_rules.proofs.Fitting.{to_add-below, to_add-fits, to_run-below, to_run-fits}
 use Rattle.sf_rules.proofs.FittingStates.{StateShaped}

@@ -32,11 +32,12 @@ use Rattle.sf_rules.specs.Checked.Lemmas.StateChildren.{AllStay, absurd-stays, a
 use Rattle.sf_rules.specs.Checked.Lemmas.Subtracting.{Lists, chosen-lists, subtract-lists}
 use Rattle.sf_rules.specs.Checked.Lemmas.VariableTerms.{all-order, remove_all-order}
 use Rattle.sf_rules.specs.Checked.RowCases.{Rows, RowsHaveCases, by_absurd, by_add, by_again, by_around, by_assign, by_call, by_choice, by_choice_assumed, by_choice_shown, by_dispose, by_drop, by_end, by_enter, by_exit, by_force, by_fork, by_give, by_look, by_loop, by_mutate, by_new, by_return, by_split, by_step, by_unroll, goal_of}
-use Rattle.sf_rules.specs.First.{first_goal, first_state_of, links_of, nils, own_vars, symbols, variables_of, nil_for, with_held, with_nil}
-use Rattle.sf_rules.specs.Rows.Branches.{branch_row}
-use Rattle.sf_rules.specs.Rows.Calls.{term_after, term_before}
-use Rattle.sf_rules.specs.Rows.Loops.{after_loop, body_once, unknown_in}
-use Rattle.sf_rules.specs.Rows.Regions.{variables_from}
+use Rattle.sf_rules.specs.First.{first_goal, links_of, nils, own_vars, symbols, nil_for, with_held, with_nil}
+use Rattle.sf_rules.specs.Resources.{variables_of, variables_from}
+use Rattle.sf_rules.specs.Checked.Rows.Branches.{branch_row}
+use Rattle.sf_rules.specs.Callee.{term_after, term_before}
+use Rattle.sf_rules.specs.Checked.Rows.Loops.{after_loop, body_once}
+use Rattle.sf_rules.specs.Rules.{unknown_in}
 use Rattle.sf_rules.specs.Setting.{Setting}
 use Rattle.sf_rules.specs.Shape.{IsShaped, MayStand}
 use Rattle.sf_rules.specs.Words.{negation, pending_assertion, test_conjuncts, to_add, to_add_test, to_take, to_take_each}
@@ -46,10 +47,10 @@ use Rattle.sf_sym.specs.declared.term.Term.{Term}
 use Rattle.sf_sym.specs.Formed.{AreFormed, IsScoped, ItemFormed, PendingFormed}
 use Rattle.sf_sym.specs.Goal.{Item, run, add, take, gave, head, again, exit, return, end, Goal, to_run}
 use Rattle.sf_sym.specs.Pending.{Pending}
-use Rattle.sf_sym.specs.Ready.{AreInOrder, HasOrder}
+use Rattle.sf_sym.specs.Ready.{HasOrder}
 use Rattle.sf_sym.specs.Shape.{HasForm, IsAssuming, IsBody, IsShowing}
 use Rattle.sf_sym.specs.State.{State, term, with_symbols, first_state}
-use Rattle.sf_sym.specs.Variables.{fresh_for, remove_vars, set_vars, with_fresh}
+use Rattle.sf_sym.specs.Variables.{AreInOrder, fresh_for, remove_vars, set_vars, with_fresh}
 
 -- the laws of rows on which this rests
 pub record RowLaws : Type 0 where

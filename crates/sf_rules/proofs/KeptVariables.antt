@@ -27,11 +27,10 @@ use Rattle.sf_rules.specs.Checked.Lemmas.Subtracting.{Lists, chosen-lists, subtr
 use Rattle.sf_rules.specs.Checked.Lemmas.TodoReads.{adding-reads, each-reads, run-reads, taking-reads}
 use Rattle.sf_rules.specs.Checked.Lemmas.VariableTerms.{all-listed, all-listed_here, remove_all-listed}
 use Rattle.sf_rules.specs.Checked.RowCases.{Rows, by_absurd, by_add, by_again, by_around, by_assign, by_call, by_choice, by_choice_assumed, by_choice_shown, by_dispose, by_drop, by_end, by_enter, by_exit, by_force, by_fork, by_give, by_look, by_loop, by_mutate, by_new, by_return, by_split, by_step, by_unroll, goal_of}
-use Rattle.sf_rules.specs.First.{variables_of}
 use Rattle.sf_rules.specs.HasVariables.{HasNone, HasVariables, TodoReadsIn, WholeReadsIn, with_those, without_those}
-use Rattle.sf_rules.specs.Rows.Calls.{term_after, term_before}
-use Rattle.sf_rules.specs.Rows.Loops.{unknown_in}
-use Rattle.sf_rules.specs.Rows.Regions.{variables_from}
+use Rattle.sf_rules.specs.Callee.{term_after, term_before}
+use Rattle.sf_rules.specs.Resources.{variables_from, variables_of}
+use Rattle.sf_rules.specs.Rules.{unknown_in}
 use Rattle.sf_rules.specs.Setting.{Setting}
 use Rattle.sf_rules.specs.Shape.{IsShaped}
 use Rattle.sf_rules.specs.Words.{negation, to_add, to_add_test, to_take}

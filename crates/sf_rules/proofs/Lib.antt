@@ -12,6 +12,7 @@ pub mod BranchLaws
 pub mod ConjunctLaws
 pub mod RowInversion
 pub mod RuleLaws
+pub mod Updates
 pub mod Settings
 mod OwnTerms
 pub mod Fits

@@ -27,9 +27,10 @@ use Rattle.sf_sym.specs.Ready.{is_listed}
 use Rattle.sf_sym.specs.State.{State, term}
 use Rattle.sf_sym.specs.Variables.{with_fresh}
 use Rattle.sf_rules.specs.declared.few.TheConstants.{TOO_MANY}
-use Rattle.sf_rules.specs.Rows.Ends as ends
-use Rattle.sf_rules.specs.Rows.Front.{at_again, at_command, at_head, at_return}
-use Rattle.sf_rules.specs.Rows.Loops as loops
+use Rattle.sf_rules.specs.Checked.Rows.Ends as ends
+use Rattle.sf_rules.specs.Checked.Rows.Front.{at_again, at_command, at_head, at_return}
+use Rattle.sf_rules.specs.Checked.Rows.Loops as loops
+use Rattle.sf_rules.specs.Rules.{unknown_in}
 use Rattle.sf_rules.specs.Setting.{Setting}
 use Rattle.sf_rules.specs.Words.{negation, pending_assertion, to_add, to_add_test, to_take, to_take_each}
 use Rattle.sf_rules.proofs.Items.{to_run_of}
@@ -127,7 +128,7 @@ listed_any (v ∷ vs) x = ap (λ b. same_var v.0 x || b) (listed_any vs x)
 -- of what a body may change what has a term
 pub kept_unknown : (d : Setting) (s : State) (body : Block) (vars : List (Var × Term)) (all kept : List Var)
     → vars ≡ s.vars → all ≡ changes_in d.sets body → kept ≡ filter (λ x. list_any (λ v. same_var v.0 x) vars) all
-    → kept ≡ loops.unknown_in d s body
+    → kept ≡ unknown_in d s body
 kept_unknown d s body vars all kept v a k =
     k ∙ filter_agree (λ x. list_any (λ v. same_var v.0 x) vars) (is_listed vars) (listed_any vars) all
     ∙ (λ i. filter (is_listed (v i)) (a i))
@@ -135,13 +136,13 @@ kept_unknown d s body vars all kept v a k =
 -- both goals that are left of a loop, where its body leaves few variables unknown
 pub around_left : (d : Setting) (s now : State) (p : Place) (x : Test Expr) (a : Assertion) (body : Block)
     (rest items : List Item) (once after : Goal) → items ≡ head p x a body ∷ rest
-    → length (loops.unknown_in d s body) < TOO_MANY → now ≡ with_fresh (loops.unknown_in d s body) s
+    → length (unknown_in d s body) < TOO_MANY → now ≡ with_fresh (unknown_in d s body) s
     → once ≡ loops.body_once d now p x a body → after ≡ loops.after_loop d now p x a rest
     → Some (once ∷ after ∷ []) ≡ at_head (loops.around_row d s) items
 around_left d s now p x a body rest items once after i few n o e =
-    let less : nat_lt (length (loops.unknown_in d s body)) TOO_MANY ≡ true = grind (arith, nat_tests) in
-    let both : List Goal = loops.body_once d (with_fresh (loops.unknown_in d s body) s) p x a body
-    ∷ loops.after_loop d (with_fresh (loops.unknown_in d s body) s) p x a rest ∷ [] in
+    let less : nat_lt (length (unknown_in d s body)) TOO_MANY ≡ true = grind (arith, nat_tests) in
+    let both : List Goal = loops.body_once d (with_fresh (unknown_in d s body) s) p x a body
+    ∷ loops.after_loop d (with_fresh (unknown_in d s body) s) p x a rest ∷ [] in
     let left : Some (once ∷ after ∷ []) ≡ Some both = λ j. Some ((o ∙ ap (λ z. loops.body_once d z p x a body) n) j
     ∷ (e ∙ ap (λ z. loops.after_loop d z p x a rest) n) j ∷ []) in
     left ∙ sym (ap (λ (b : Bool). cond b (Some both) None) less) ∙ sym (ap (at_head (loops.around_row d s)) i)

@@ -6,7 +6,7 @@ use Rattle.sf_base.specs.declared.ids.Var.{Var}
 use Rattle.sf_core.specs.declared.command.Occurrence.{Occurrence}
 use Rattle.sf_sym.specs.declared.term.Term.{Term}
 use Rattle.sf_sym.specs.declared.term.Term.TheVariants.{Nil}
-use Rattle.sf_rules.specs.Rows.Calls.{own_term}
+use Rattle.sf_rules.specs.Callee.{own_term}
 
 -- where the code found an element
 pub found_at : {A : Type 0} (xs : List A) (i : ℕ) (x : A) → true ≡ nat_lt i (length xs) → x ≡ get_or xs i x

@@ -25,8 +25,9 @@ use Rattle.sf_sym.specs.Goal.{Goal, Item, exit, gave, one_goal, run, to_run, tod
 use Rattle.sf_sym.specs.State.{State, term}
 use Rattle.sf_sym.specs.Variables.{with_fresh}
 use Rattle.sf_rules.specs.declared.few.TheConstants.{TOO_MANY}
-use Rattle.sf_rules.specs.Rows.Front.{at_command, at_exit}
-use Rattle.sf_rules.specs.Rows.Regions.{enter_row, entered, entered_with, exit_row, variables_from}
+use Rattle.sf_rules.specs.Checked.Rows.Front.{at_command, at_exit}
+use Rattle.sf_rules.specs.Checked.Rows.Regions.{enter_row, entered, entered_with, exit_row}
+use Rattle.sf_rules.specs.Resources.{variables_from}
 use Rattle.sf_rules.specs.Setting.{Setting, setting_of}
 use Rattle.sf_rules.specs.Words.{to_add, to_add_test, to_take}
 use Rattle.sf_rules.proofs.CallRows.{are_few, are_many}

@@ -10,19 +10,19 @@ use Rattle.sf_base.specs.declared.place.Place.{Place}
 use Rattle.sf_core.specs.declared.assertion.Test.{Test}
 use Rattle.sf_core.specs.declared.command.Expr.{Expr}
 use Rattle.sf_core.specs.Program.Syntax.{Assertion, Block, Command, assign, look_up, mutate, new, dispose, if, while, call, fork, with, Procedure}
-use Rattle.sf_rules.specs.Few.{has_numbers}
+use Rattle.sf_rules.specs.Rules.{has_numbers}
 use Rattle.sf_rules.specs.Checked.Lemmas.{few-left}
 use Rattle.sf_rules.specs.Checked.RowCases.{Rows, by_absurd, by_drop, by_force, by_split, by_unroll, by_assign, by_look, by_mutate, by_new, by_dispose, by_choice, by_loop, by_call, by_fork, by_enter, by_add, by_choice_assumed, by_step, by_choice_shown, by_give, by_around, by_again, by_exit, by_return, by_end, RowsHaveCases}
-use Rattle.sf_rules.specs.Rows.Branches.{branch_row}
-use Rattle.sf_rules.specs.Rows.Calls.{called, call_row, forked, fork_row, give_row}
-use Rattle.sf_rules.specs.Rows.Commands.{assign_row, look_row, mutate_row, new_row, dispose_row}
-use Rattle.sf_rules.specs.Rows.Ends.{return_row, end_row, is_empty}
-use Rattle.sf_rules.specs.Rows.Front.{at_command, at_add, at_take, at_gave, at_head, at_again, at_exit, at_return, at_end}
-use Rattle.sf_rules.specs.Rows.Loops.{loop_row, around_row, again_row}
-use Rattle.sf_rules.specs.Rows.Regions.{entered, enter_row, exit_row}
-use Rattle.sf_rules.specs.Rows.Take.{subtract_row}
-use Rattle.sf_rules.specs.Rows.Whole.{row_of}
-use Rattle.sf_rules.specs.Rows.Add.{assume_row}
+use Rattle.sf_rules.specs.Checked.Rows.Branches.{branch_row}
+use Rattle.sf_rules.specs.Checked.Rows.Calls.{called, call_row, forked, fork_row, give_row}
+use Rattle.sf_rules.specs.Checked.Rows.Commands.{assign_row, look_row, mutate_row, new_row, dispose_row}
+use Rattle.sf_rules.specs.Checked.Rows.Ends.{return_row, end_row, is_empty}
+use Rattle.sf_rules.specs.Checked.Rows.Front.{at_command, at_add, at_take, at_gave, at_head, at_again, at_exit, at_return, at_end}
+use Rattle.sf_rules.specs.Checked.Rows.Loops.{loop_row, around_row, again_row}
+use Rattle.sf_rules.specs.Checked.Rows.Regions.{entered, enter_row, exit_row}
+use Rattle.sf_rules.specs.Checked.Rows.Take.{subtract_row}
+use Rattle.sf_rules.specs.Checked.Rows.Whole.{row_of}
+use Rattle.sf_rules.specs.Checked.Rows.Add.{assume_row}
 use Rattle.sf_rules.specs.Setting.{Setting}
 use Rattle.sf_sym.specs.declared.tag.Tag.{Tag}
 use Rattle.sf_sym.specs.declared.tag.Tag.TheVariants as t

@@ -5,7 +5,7 @@ use Rattle.std.specs.Prelude.{IfErr, IfOk}
 use Rattle.std.specs.declared.result.Result.{Result}
 use Rattle.std.specs.declared.result.Result.TheVariants.{Ok, Err}
 use Rattle.sf_rules.specs.Checked.Children.{children_of}
-use Rattle.sf_rules.specs.Rows.Whole.{row}
+use Rattle.sf_rules.specs.Checked.Rows.Whole.{row}
 use Rattle.sf_rules.specs.declared.children.Children.{Children}
 use Rattle.sf_rules.specs.declared.children.RuleFault.{RuleFault}
 use Rattle.sf_rules.specs.declared.children.RuleFault.TheVariants.{NotARule}

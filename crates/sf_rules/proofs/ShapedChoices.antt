@@ -11,7 +11,7 @@ use Rattle.sf_core.specs.declared.assertion.Test.{Test}
 use Rattle.sf_core.specs.declared.fields.Links.{Links}
 use Rattle.sf_core.specs.Program.Syntax.{holds, points, segment, tree, choose, Conjuncts, none, also, Level}
 use Rattle.sf_rules.specs.First.{links_of}
-use Rattle.sf_rules.specs.Rows.Branches.{branch_row, chosen}
+use Rattle.sf_rules.specs.Checked.Rows.Branches.{branch_row, chosen}
 use Rattle.sf_rules.specs.Setting.{Setting}
 use Rattle.sf_rules.proofs.Fitting.{adding-below, adding-fits, before-fit, level-fits, taking-below, taking-fits}
 use Rattle.sf_rules.proofs.ShapedGoals.{AllKeep, keeps-goal, one-keeps, rises-none, state-shaped}

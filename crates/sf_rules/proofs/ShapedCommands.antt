@@ -9,8 +9,9 @@ use Rattle.sf_core.specs.declared.assertion.Test.{Test}
 use Rattle.sf_core.specs.declared.command.Expr.{Expr}
 use Rattle.sf_core.specs.declared.command.Occurrence.{Occurrence}
 use Rattle.sf_core.specs.Program.Syntax.{Block, Command, assign, look_up, mutate, new, dispose, if}
-use Rattle.sf_rules.specs.Rows.Branches.{branch_row}
-use Rattle.sf_rules.specs.Rows.Commands.{assign_row, look_row, mutate_row, new_row, dispose_row, looked, with_var}
+use Rattle.sf_rules.specs.Checked.Rows.Branches.{branch_row}
+use Rattle.sf_rules.specs.Checked.Rows.Commands.{assign_row, look_row, mutate_row, new_row, dispose_row, looked}
+use Rattle.sf_rules.specs.Rules.{with_var}
 use Rattle.sf_rules.specs.Setting.{Setting}
 use Rattle.sf_rules.proofs.Fitting.{to_run-below, to_run-fits}
 use Rattle.sf_rules.proofs.FittingStates.{StateShaped, cell-shaped, fields-shaped, symbols-shaped, vars-shaped, without-shaped}

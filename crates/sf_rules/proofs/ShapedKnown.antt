@@ -19,15 +19,15 @@ use Rattle.sf_sym.specs.Cells.{atom_at, with_atom, with_cell, without}
 use Rattle.sf_sym.specs.declared.atom.Atom.{Atom}
 use Rattle.sf_sym.specs.declared.atom.Atom.TheVariants.{Points, Ls, Tree}
 use Rattle.sf_sym.specs.declared.term.Term.{Term}
-use Rattle.sf_sym.specs.declared.term.Term.TheVariants.{Nil, Sym}
+use Rattle.sf_sym.specs.declared.term.Term.TheVariants.{Sym}
 use Rattle.sf_sym.specs.Equalities.{assumed_apart, assumed_equal}
 use Rattle.sf_sym.specs.Fields.{put_term}
 use Rattle.sf_sym.specs.Goal.{Goal, at_state}
-use Rattle.sf_sym.specs.Known.{ends, is_forced, is_nothing}
+use Rattle.sf_sym.specs.Known.{ends, forced_pair, is_elsewhere, is_nothing}
 use Rattle.sf_sym.specs.Checked.Lemmas.AtomLists.{at-all}
-use Rattle.sf_sym.specs.Checked.Lemmas.Below.{below-more, below-symbol, put-all}
+use Rattle.sf_sym.specs.Checked.Lemmas.Below.{below-more, below-symbol, forced-below, put-all}
 use Rattle.sf_sym.specs.State.{State, with_symbols}
-use Rattle.sf_sym.specs.Tests.{differs, is_absurd, same_term}
+use Rattle.sf_sym.specs.Tests.{differs, is_absurd, root, same_term}
 
 -- a segment or tree that isn't empty
 module _ (d : Setting) (s : State) (h : StateShaped d s) where
@@ -79,14 +79,6 @@ module _ (d : Setting) (s : State) (h : StateShaped d s) where
   unrolls links (Ls t u) s2 b l e = segment-unrolls links.tl t u s2 b.0 b.1 l e
   unrolls links (Tree t) s2 b l e = tree-unrolls links.l links.r t s2 b l e
 
--- the ends of a segment or tree are below
-ends-below : (n : ℕ) (x : Atom) (e : Term × Term) → AllInAtom (IsBelow n) x → ends x ≡ Some e
-    → IsBelow n e.0 × IsBelow n e.1
-ends-below n (Points t fields) e b i = absurd (cc)
-ends-below n (Ls t u) e b i = subst (λ (z : Term × Term). IsBelow n z.0 × IsBelow n z.1) (same_Some (t, u) e i) b
-ends-below n (Tree t) e b i =
-    subst (λ (z : Term × Term). IsBelow n z.0 × IsBelow n z.1) (same_Some (t, Nil) e i) (b, refl)
-
 module _ (d : Setting) (goal : Goal) (left : List Goal) (h : IsFitting d goal) where
   abbrev s : State
   s = goal.state
@@ -127,25 +119,21 @@ module _ (d : Setting) (goal : Goal) (left : List Goal) (h : IsFitting d goal) w
   pub force-keeps : (a : ℕ) → force_row goal a ≡ Some left → AllKeep d s left
   force-keeps a row = go (atom_at s.atoms a) refl row
     where
-      step : (e : Term × Term) (b : Bool) → IsBelow s.next_sym e.0 × IsBelow s.next_sym e.1
-          → cond b (Some (assumed_equal e.0 e.1 goal ∷ [])) None ≡ Some left → AllKeep d s left
-      step e true b i =
-          one-keeps d s (assumed_equal e.0 e.1 goal) left i (equal-keeps d e.0 e.1 goal h s b.0 b.1 self-rises)
-      step e false b i = absurd (cc)
-
       found : (x : Option (Term × Term))
           → ((e : Term × Term) → x ≡ Some e → IsBelow s.next_sym e.0 × IsBelow s.next_sym e.1)
-          → option_and_then (λ e. cond (is_forced s a e) (Some (assumed_equal e.0 e.1 goal ∷ [])) None) x ≡ Some left
-          → AllKeep d s left
+          → option_map (λ e. assumed_equal e.0 e.1 goal ∷ []) x ≡ Some left → AllKeep d s left
       found None b i = absurd (cc)
-      found (Some e) b i = step e (is_forced s a e) (b e refl) i
+      found (Some e) b i =
+          let (one, two) = b e refl in
+          one-keeps d s (assumed_equal e.0 e.1 goal) left i (equal-keeps d e.0 e.1 goal h s one two self-rises)
 
       go : (x : Option Atom) → atom_at s.atoms a ≡ x
-          → option_and_then (λ e. cond (is_forced s a e) (Some (assumed_equal e.0 e.1 goal ∷ [])) None)
-          (option_and_then ends x) ≡ Some left
+          → option_map (λ e. assumed_equal e.0 e.1 goal ∷ []) (option_and_then (forced_pair s a) x) ≡ Some left
           → AllKeep d s left
       go None there i = absurd (cc)
-      go (Some x) there i = found (ends x) (λ e j. ends-below s.next_sym x e (atom-below a x there) j) i
+      go (Some x) there i =
+          found (forced_pair s a x)
+          (λ e j. forced-below s.next_sym x (is_elsewhere s a (root x)) e j (atom-below a x there)) i
 
   pub split-keeps : (t u : Term) → split_row goal t u ≡ Some left → AllKeep d s left
   split-keeps t u row = go (not (same_term t u) && (is_below s.next_sym t && is_below s.next_sym u)) refl row

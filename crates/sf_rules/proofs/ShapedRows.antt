@@ -17,9 +17,10 @@ use Rattle.sf_produce.specs.Add.{operands}
 use Rattle.sf_rules.specs.declared.few.TheConstants.{TOO_MANY}
 use Rattle.sf_rules.specs.Checked.Lemmas.{few-left}
 use Rattle.sf_rules.specs.Checked.RowCases.{Rows, by_absurd, by_add, by_again, by_around, by_assign, by_call, by_choice, by_choice_assumed, by_choice_shown, by_dispose, by_drop, by_end, by_enter, by_exit, by_force, by_fork, by_give, by_look, by_loop, by_mutate, by_new, by_return, by_split, by_step, by_unroll, goal_of}
-use Rattle.sf_rules.specs.Rows.Calls.{term_after, term_before}
-use Rattle.sf_rules.specs.Rows.Loops.{after_loop, body_once, unknown_in}
-use Rattle.sf_rules.specs.Rows.Regions.{variables_from}
+use Rattle.sf_rules.specs.Callee.{term_after, term_before}
+use Rattle.sf_rules.specs.Checked.Rows.Loops.{after_loop, body_once}
+use Rattle.sf_rules.specs.Rules.{unknown_in}
+use Rattle.sf_rules.specs.Resources.{variables_from}
 use Rattle.sf_rules.specs.Setting.{Setting}
 use Rattle.sf_rules.specs.Words.{negation, to_add, to_add_test, to_take, to_take_each}
 use Rattle.sf_rules.proofs.Fitting.{to_add-below, to_add-fits, to_add_test-below, to_add_test-fits, to_run-below, to_run-fits, to_take-below, to_take-fits, to_take_each-below, to_take_each-fits}

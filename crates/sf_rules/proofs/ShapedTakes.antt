@@ -18,7 +18,7 @@ use Rattle.sf_core.specs.declared.assertion.Test.TheVariants.{Equal, Differ}
 use Rattle.sf_core.specs.Program.Syntax.{Conjunct, holds, points, segment, tree, Conjuncts, none, also}
 use Rattle.sf_rules.specs.First.{links_of}
 use Rattle.sf_rules.specs.Checked.Lemmas.{few-left}
-use Rattle.sf_rules.specs.Rows.Take.{subtract_row}
+use Rattle.sf_rules.specs.Checked.Rows.Take.{subtract_row}
 use Rattle.sf_rules.specs.Setting.{Setting}
 use Rattle.sf_rules.proofs.Fitting.{taking-below, taking-fits}
 use Rattle.sf_rules.proofs.FittingStates.{StateShaped, handed-shaped, raised-shaped}

@@ -2,7 +2,7 @@
 use Rattle.std.proofs.Common.{◌≡◌, Some, None, List, refl}
 use Rattle.sf_rules.proofs.RuleLaws.{none_leaves}
 use Rattle.sf_rules.specs.Checked.Lemmas.RowRules.{row-leaves}
-use Rattle.sf_rules.specs.Rows.Whole.{row}
+use Rattle.sf_rules.specs.Checked.Rows.Whole.{row}
 use Rattle.sf_rules.specs.Rules.{HasNoRule, Leaves}
 use Rattle.sf_rules.specs.Setting.{Setting}
 use Rattle.sf_sym.specs.declared.tag.Tag.{Tag}
@@ -145,7 +145,7 @@ known_terms_are_apart d = (yes refl, no refl)
 
 pub wanted_cells_are_handed_over : WantedCellsAreHandedOver
 unfolding WantedCellsAreHandedOver
-wanted_cells_are_handed_over d = (yes refl, yes refl, no refl, no refl, no refl)
+wanted_cells_are_handed_over d = (yes refl, yes refl, no refl, no refl, no refl, yes refl, no refl)
 
 pub empty_parts_need_nothing : EmptyPartsNeedNothing
 unfolding EmptyPartsNeedNothing

@@ -5,12 +5,15 @@ pub mod Examples
 pub mod ExamplesOfBodies
 pub mod ExamplesOfConjuncts
 pub mod ExamplesOfInit
+pub mod Few
 pub mod Front
 pub mod LawsOfCommands
 pub mod LawsOfConjuncts
 pub mod LawsOfRules
 pub mod LawsOfSettings
 pub mod LawsOfShape
+pub mod LawsOfUpdates
 pub mod Lemmas
 pub mod RowCases
+pub mod Rows
 pub mod Terms

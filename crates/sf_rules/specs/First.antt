@@ -2,8 +2,7 @@
 -- Berdine, Calcagno, O'Hearn, "Smallfoot" (2005): the precondition is assumed, the body run, the postcondition due.
 -- O'Hearn, "Resources, Concurrency and Local Reasoning" (2007): what sets the resources up shows their invariants.
 use Rattle.std.specs.Prelude.{ℕ, zero, suc, ◌+◌, ◌-◌, Bool, true, false, cond, Option, Some, None, List, [], ◌∷◌, ◌++◌, codes, get_or, length, map}
-use Rattle.std.specs.List.{flat_map, slice_get}
-use Rattle.std.specs.Option.{option_map, unwrap_or}
+use Rattle.std.specs.List.{flat_map}
 use Rattle.std.specs.Str.{bytes_eq}
 use Rattle.sf_base.specs.declared.ids.FieldId.{FieldId}
 use Rattle.sf_base.specs.declared.ids.ProcId.{ProcId}
@@ -12,14 +11,14 @@ use Rattle.sf_base.specs.declared.ids.Var.{Var}
 use Rattle.sf_base.specs.declared.ids.Var.TheVariants.{Own}
 use Rattle.sf_core.specs.declared.fields.Links.{Links}
 use Rattle.sf_core.specs.Program.Init.{is_init}
-use Rattle.sf_core.specs.Program.Syntax.{Procedure, Program, Resource}
+use Rattle.sf_core.specs.Program.Syntax.{Procedure, Program}
 use Rattle.sf_precise.specs.Annotations.{owed}
 use Rattle.sf_sym.specs.declared.term.Term.{Term}
 use Rattle.sf_sym.specs.declared.term.Term.TheVariants.{Nil, Sym}
 use Rattle.sf_sym.specs.Goal.{Goal, return, to_run}
 use Rattle.sf_sym.specs.State.{State, first_state, term}
 use Rattle.sf_sym.specs.Variables.{set_vars, with_fresh}
-use Rattle.sf_rules.specs.Rows.Regions.{variables_from}
+use Rattle.sf_rules.specs.Resources.{variables_of}
 use Rattle.sf_rules.specs.Setting.{Setting}
 use Rattle.sf_rules.specs.Words.{to_add}
 
@@ -47,11 +46,6 @@ symbols from (suc count) = (Own from, Sym from) ∷ symbols (suc from) count
 abbrev pub nils : (from count : ℕ) → List (Var × Term)
 nils from zero = []
 nils from (suc count) = (Own from, Nil) ∷ nils (suc from) count
-
--- the variables of a resource of the program
-abbrev pub variables_of : Program → ResId → List Var
-variables_of p r =
-    unwrap_or (option_map (λ (of : Resource). variables_from r 0 of.variables) (slice_get p.resources r.0)) []
 
 -- the terms of its own variables at first: a symbol for each parameter, nil for each local
 abbrev pub own_vars : Procedure → List (Var × Term)

@@ -6,7 +6,7 @@ use Rattle.std.specs.List.{AllByRecursion, list_any}
 use Rattle.sf_base.specs.declared.ids.Var.{Var}
 use Rattle.sf_base.specs.Variables.{same_var}
 use Rattle.sf_core.specs.Program.Syntax.{Block, done, then, Command, assign, look_up, mutate, new, dispose, if, while, call, fork, with, Program}
-use Rattle.sf_rules.specs.First.{variables_of}
+use Rattle.sf_rules.specs.Resources.{variables_of}
 use Rattle.sf_sym.specs.Goal.{Item, run, add, take, gave, head, again, exit, return, end, Goal}
 use Rattle.sf_sym.specs.Ready.{IsTestIn, ReadsIn, is_listed}
 

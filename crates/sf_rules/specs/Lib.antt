@@ -1,10 +1,10 @@
-pub mod Few
+pub mod Callee
 pub mod First
 pub mod HasVariables
 pub mod Proving
+pub mod Resources
 pub mod Setting
 pub mod Shape
 pub mod Words
-pub mod Rows
 pub mod Rules
 pub mod Checked

@@ -3,25 +3,22 @@
 -- Berdine, Calcagno, O'Hearn, "Symbolic Execution with Separation Logic" (2005) (SE), and
 -- "Smallfoot: Modular Automatic Assertion Checking with Separation Logic" (2005) (SF); O'Hearn,
 -- "Resources, Concurrency and Local Reasoning" (2007) (R).
-use Rattle.std.specs.Prelude.{◌≡◌, ◌≢◌, ℕ, ◌+◌, ◌<◌, Bool, true, false, ◌||◌, cond, get_or, length, Option, Some, None, List, [], ◌∷◌, ◌++◌, set}
-use Rattle.std.specs.List.{slice_get}
+use Rattle.std.specs.Prelude.{◌≡◌, ◌≢◌, ℕ, ◌+◌, ◌-◌, ◌^◌, ◌<◌, Bool, true, false, ◌&&◌, ◌||◌, cond, get_or, length, nat_le, Option, Some, None, List, [], ◌∷◌, ◌++◌, set}
+use Rattle.std.specs.List.{filter, slice_get}
 use Rattle.sf_base.specs.declared.ids.FieldId.{FieldId}
 use Rattle.sf_base.specs.declared.ids.ResId.{ResId}
+use Rattle.sf_base.specs.declared.ids.Var.{Var}
 use Rattle.sf_base.specs.declared.place.Place.{Place}
-use Rattle.sf_calls.specs.Changes.{changed}
+use Rattle.sf_calls.specs.Changes.{changed, changes_in}
 use Rattle.sf_core.specs.declared.assertion.Operand.{Operand}
 use Rattle.sf_core.specs.declared.assertion.Operand.TheVariants.{Known, Exists}
 use Rattle.sf_core.specs.declared.assertion.Test.TheVariants.{True, Equal, Differ}
 use Rattle.sf_core.specs.declared.command.Expr.TheVariants.{Nil as ENil}
 use Rattle.sf_core.specs.Program.Syntax as command
-use Rattle.sf_core.specs.Program.Syntax.{Call, Conjunct, holds, points, segment, tree, choose, Conjuncts, also, Procedure, Resource}
+use Rattle.sf_core.specs.Program.Syntax.{Block, Call, Conjunct, holds, points, segment, tree, choose, Conjuncts, also, Procedure, Resource}
 use Rattle.sf_rules.specs.declared.few.TheConstants.{TOO_MANY}
-use Rattle.sf_rules.specs.Few.{has_numbers}
-use Rattle.sf_rules.specs.First.{variables_of}
-use Rattle.sf_rules.specs.Rows.Calls.{term_after, term_before}
-use Rattle.sf_rules.specs.Rows.Commands.{with_var}
-use Rattle.sf_rules.specs.Rows.Loops.{unknown_in}
-use Rattle.sf_rules.specs.Rows.Regions.{variables_from}
+use Rattle.sf_rules.specs.Resources.{variables_of, variables_from}
+use Rattle.sf_rules.specs.Callee.{term_after, term_before}
 use Rattle.sf_rules.specs.Setting.{Setting}
 use Rattle.sf_rules.specs.Words.{negation, to_add, to_add_test, to_take, to_take_each}
 use Rattle.sf_sym.specs.Below.{IsBelow}
@@ -38,9 +35,10 @@ use Rattle.sf_sym.specs.Fields.{field_term, put_term}
 use Rattle.sf_sym.specs.Goal as item
 use Rattle.sf_sym.specs.Goal.{Item, run, add, take, gave, Goal, adding, taking, to_run}
 use Rattle.sf_sym.specs.Pending.{before, conjuncts_of, existentials_in, one_if_existential}
+use Rattle.sf_sym.specs.Ready.{is_listed}
 use Rattle.sf_sym.specs.State.{State, term, with_symbols}
 use Rattle.sf_sym.specs.Tests.{allocated, differs, is_absurd, is_constant}
-use Rattle.sf_sym.specs.Variables.{fresh_for, remove_vars, set_vars, with_fresh}
+use Rattle.sf_sym.specs.Variables.{fresh_for, remove_vars, set_var, set_vars, with_fresh}
 
 -- WORDS
 infix 1 ◌⊢◌
@@ -81,6 +79,16 @@ with_fields_at a root fs s = record s { atoms = with_fields s.atoms a root fs }
 -- the state without atom a
 abbrev pub without_atom : ℕ → State → State
 without_atom a s = record s { atoms = without s.atoms a }
+
+-- the state in which the variable has that term
+abbrev pub with_var : Var → Term → State → State
+with_var x t s = record s { vars = set_var x t s.vars }
+
+-- the variables that a loop's body leaves unknown in that state, in order of number: of those that
+-- it may change the ones that have a term there. A variable in reach only inside a region of
+-- the body has none
+abbrev pub unknown_in : Setting → State → Block → List Var
+unknown_in d s body = filter (is_listed s.vars) (changes_in d.sets body)
 
 -- these conjuncts to assume, of whose existentials some have terms; and the same where any are left
 abbrev pub assume : Place → Conjuncts Term → List (Option Term) → Item
@@ -378,7 +386,12 @@ pub data Rule (d : Setting) (s : State) : List Item → Tag → List Goal → Ty
       ++ rest)
       ∷ [])
 
--- NUMBERS, which no goal of a program runs out of
+-- NUMBERS, which no goal of a program runs out of: a procedure and the resources have 512 variables
+-- at most, and a cell 16 fields
+-- rules apply only where new numbers can't run out
+abbrev pub has_numbers : State → Bool
+has_numbers s = nat_le s.next_sym (2 ^ 32 - TOO_MANY) && nat_le s.next_atom (2 ^ 32 - TOO_MANY)
+
 -- so many fresh symbols the conjunct in front may need
 abbrev pub needed_to_assume : Conjuncts Term → ℕ
 needed_to_assume (also (points q x fs) cs) = one_if_existential x + existentials_in fs

@@ -4,7 +4,7 @@ ghost use Rattle.std.specs.Prelude.{◌≡◌, ◌++◌, ◌∷◌, cond, IfOk};
 ghost use Rattle.std.specs.Option.{option_map};
 ghost use Rattle.sf_core.specs.Program.View.{block_of, command_of};
 ghost use Rattle.sf_rules.specs.Checked.Children.{children_of};
-ghost use Rattle.sf_rules.specs.Rows.Branches.{branch_row, chosen};
+ghost use Rattle.sf_rules.specs.Checked.Rows.Branches.{branch_row, chosen};
 ghost use Rattle.sf_sym.specs.Goal.{add, run, take, to_run, todo_of};
 ghost use Rattle.sf_sym.specs.Pending.{pending_of};
 

@@ -4,10 +4,9 @@ ghost use Rattle.std.specs.Prelude.{◌≡◌, ◌++◌, ◌∷◌, [], IfErr, I
 ghost use Rattle.std.specs.Option.{option_map};
 ghost use Rattle.sf_precise.specs.Order.{IsOrdering};
 ghost use Rattle.sf_rules.specs.Checked.Children.{children_of, stack_of};
-ghost use Rattle.sf_rules.specs.Rows.Whole.{row, row_of};
-ghost use Rattle.sf_rules.specs.Rules.{HasNoRule, Leaves};
+ghost use Rattle.sf_rules.specs.Checked.Rows.Whole.{row, row_of};
+ghost use Rattle.sf_rules.specs.Rules.{HasNoRule, Leaves, has_numbers};
 ghost use Rattle.sf_rules.specs.Setting.{Setting, setting_of};
-ghost use Rattle.sf_rules.specs.Few.{has_numbers};
 ghost use Rattle.sf_rules.specs.declared.children.RuleFault.TheVariants.{NotARule};
 ghost use Rattle.sf_sym.specs.Goal.{goal_of};
 

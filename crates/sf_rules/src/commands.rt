@@ -3,9 +3,9 @@
 ghost use Rattle.std.specs.Prelude.{◌≡◌, IfOk, IsTrue};
 ghost use Rattle.std.specs.Option.{option_and_then, option_map};
 ghost use Rattle.sf_rules.specs.Checked.Children.{children_of};
-ghost use Rattle.sf_rules.specs.Rows.Commands.{assign_row, dispose_row, look_row, looked, mutate_row, new_row};
-ghost use Rattle.sf_rules.specs.Rows.Front.{at_command};
-ghost use Rattle.sf_rules.specs.Few.{has_numbers};
+ghost use Rattle.sf_rules.specs.Checked.Rows.Commands.{assign_row, dispose_row, look_row, looked, mutate_row, new_row};
+ghost use Rattle.sf_rules.specs.Checked.Rows.Front.{at_command};
+ghost use Rattle.sf_rules.specs.Rules.{has_numbers};
 ghost use Rattle.sf_sym.specs.Cells.{cell_at};
 ghost use Rattle.sf_sym.specs.Fields.{field_term};
 ghost use Rattle.sf_sym.specs.Goal.{one_goal, todo_of};

@@ -12,7 +12,7 @@ ghost use Rattle.sf_sym.specs.Goal.{Goal as GoalOf, Item as Thing, add, again, e
 ghost use Rattle.sf_sym.specs.Pending.{Pending as Conditions, pending_of};
 ghost use Rattle.sf_sym.specs.declared.term.Term.{Term as TermOf};
 ghost use Rattle.sf_rules.specs.Checked.Front.{thing_of};
-ghost use Rattle.sf_rules.specs.Rows.Front.{at_add, at_again, at_command, at_end, at_exit, at_gave, at_head, at_return, at_take};
+ghost use Rattle.sf_rules.specs.Checked.Rows.Front.{at_add, at_again, at_command, at_end, at_exit, at_gave, at_head, at_return, at_take};
 
 use sf_base::{Name, Place, ResId, Var};
 use sf_core::{Assertion, Command, Expr, Ordered, Test};

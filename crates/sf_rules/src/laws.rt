@@ -4,6 +4,7 @@
 //! and does nothing.
 
 ghost use Rattle.sf_rules.specs.Checked.LawsOfSettings.{ArrangedHasSetting, SettingExists, SettingIsUnique};
+ghost use Rattle.sf_rules.specs.Checked.LawsOfUpdates.{FieldsAreOneList, FieldsAreUpdated, VariablesAreOneList, VariablesAreUpdated};
 ghost use Rattle.sf_rules.specs.Checked.LawsOfShape.{FirstGoalsAreShaped, FirstGoalsAreSmall, GoalsAreShaped, RowsKeepShape};
 ghost use Rattle.sf_rules.specs.Checked.RowCases.{RowsHaveCases};
 ghost use Rattle.sf_rules.specs.Checked.LawsOfRules.{RowsAreRules, RulesAreRows};
@@ -41,6 +42,31 @@ pub fn rules_are_rows()
 #[tactic(auto, using(crate::proofs::RuleLaws::rows_are_rules))]
 pub fn rows_are_rules()
     ensures { RowsAreRules }
+{}
+
+/// A variable that is set has its term from then on, one that is removed none, and all others keep
+/// theirs.
+#[tactic(auto, using(crate::proofs::Updates::variables_are_updated))]
+pub fn variables_are_updated()
+    ensures { VariablesAreUpdated }
+{}
+
+/// A field that is put has its term from then on, and all others keep theirs.
+#[tactic(auto, using(crate::proofs::Updates::fields_are_updated))]
+pub fn fields_are_updated()
+    ensures { FieldsAreUpdated }
+{}
+
+/// Variables in order are known by the term of each.
+#[tactic(auto, using(crate::proofs::Updates::variables_are_one_list))]
+pub fn variables_are_one_list()
+    ensures { VariablesAreOneList }
+{}
+
+/// So are the fields of a cell.
+#[tactic(auto, using(crate::proofs::Updates::fields_are_one_list))]
+pub fn fields_are_one_list()
+    ensures { FieldsAreOneList }
 {}
 
 /// After an assignment the variable has the value of the expression.

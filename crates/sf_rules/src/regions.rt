@@ -8,10 +8,11 @@ ghost use Rattle.sf_core.specs.Program.Syntax.{Resource as ResourceOf};
 ghost use Rattle.sf_core.specs.Program.View.{assertion_of, block_of};
 ghost use Rattle.sf_precise.specs.Order.{IsOrdering};
 ghost use Rattle.sf_rules.specs.Checked.Children.{children_of};
-ghost use Rattle.sf_rules.specs.Rows.Front.{at_command, at_exit};
-ghost use Rattle.sf_rules.specs.Rows.Regions.{enter_row, entered_with, exit_row, variables_from};
+ghost use Rattle.sf_rules.specs.Checked.Rows.Front.{at_command, at_exit};
+ghost use Rattle.sf_rules.specs.Checked.Rows.Regions.{enter_row, entered_with, exit_row};
+ghost use Rattle.sf_rules.specs.Resources.{variables_from};
 ghost use Rattle.sf_rules.specs.Setting.{Setting, setting_of};
-ghost use Rattle.sf_rules.specs.Few.{has_numbers};
+ghost use Rattle.sf_rules.specs.Rules.{has_numbers};
 ghost use Rattle.sf_sym.specs.Goal.{exit, gave, to_run, todo_of};
 
 use crate::children::Children;

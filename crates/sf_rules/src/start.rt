@@ -7,7 +7,8 @@ ghost use Rattle.sf_core.specs.Program.Formed.{ProcedureWithin};
 ghost use Rattle.sf_core.specs.Program.View.{procedure_of};
 ghost use Rattle.sf_core.specs.Program.ProgramView.{program_of};
 ghost use Rattle.sf_sym.specs.Goal.{goal_of};
-ghost use Rattle.sf_rules.specs.First.{first_goal, links_of, nil_for, nils, state_by, symbols, variables_of, with_held};
+ghost use Rattle.sf_rules.specs.First.{first_goal, links_of, nil_for, nils, state_by, symbols, with_held};
+ghost use Rattle.sf_rules.specs.Resources.{variables_of};
 ghost use Rattle.sf_calls.specs.Sets.{IsEarlierResource};
 ghost use Rattle.sf_rules.specs.Setting.{Setting, setting_of};
 

@@ -5,10 +5,10 @@ ghost use Rattle.std.specs.Option.{option_map};
 ghost use Rattle.sf_consume.specs.Subtract.{new_symbols};
 ghost use Rattle.sf_produce.specs.Add.{operands};
 ghost use Rattle.sf_rules.specs.Checked.Children.{children_of};
-ghost use Rattle.sf_rules.specs.Rows.Add.{assume_row};
-ghost use Rattle.sf_rules.specs.Rows.Front.{at_add, at_take};
-ghost use Rattle.sf_rules.specs.Rows.Take.{subtract_row};
-ghost use Rattle.sf_rules.specs.Few.{has_numbers};
+ghost use Rattle.sf_rules.specs.Checked.Rows.Add.{assume_row};
+ghost use Rattle.sf_rules.specs.Checked.Rows.Front.{at_add, at_take};
+ghost use Rattle.sf_rules.specs.Checked.Rows.Take.{subtract_row};
+ghost use Rattle.sf_rules.specs.Rules.{has_numbers};
 ghost use Rattle.sf_sym.specs.Goal.{todo_of};
 ghost use Rattle.sf_sym.specs.Pending.{existentials_in, one_if_existential, pending_of};
 
@@ -18,7 +18,7 @@ use crate::front::{take_add, take_take};
 use sf_base::FieldId;
 use sf_consume::{ConsumeFault, subtract};
 use sf_core::{Conjunct, Operand};
-use sf_produce::produce;
+use sf_produce::{OPERANDS, produce};
 use sf_sym::{Goal, Pending, Tag, Term, with_take};
 use std::alloc::{AllocError, Global};
 
@@ -77,7 +77,7 @@ fn operands(given: &Pending) -> usize
 {
     match given.first() {
         Some(Conjunct::Points(_, root, fields)) => is_existential(root) + existentials_in(fields),
-        _ => 2,
+        _ => OPERANDS,
     }
 }
 

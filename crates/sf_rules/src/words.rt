@@ -4,7 +4,7 @@
 ghost use Rattle.std.specs.Prelude.{◌≡◌, ◌++◌, [], IfOk, map};
 ghost use Rattle.sf_core.specs.Program.View.{assertion_of, call_of};
 ghost use Rattle.sf_rules.specs.Checked.Terms.{terms_of};
-ghost use Rattle.sf_rules.specs.Rows.Calls.{callee_term, own_term};
+ghost use Rattle.sf_rules.specs.Callee.{callee_term, own_term};
 ghost use Rattle.sf_rules.specs.Words.{pending_assertion, test_conjuncts, to_add, to_add_test, to_take, to_take_each};
 ghost use Rattle.sf_sym.specs.Goal.{todo_of};
 ghost use Rattle.sf_sym.specs.Pending.{pending_of};

@@ -19,8 +19,8 @@ use Rattle.sf_foot.specs.declared.vars.Vars.{Vars}
 use Rattle.sf_foot.specs.Starting.{IsBeginning, IsFreshFrom, StartsWith, store_of}
 use Rattle.sf_heap.specs.Cells.{Cells, cell_of, heap_of}
 use Rattle.sf_machine.specs.Beginning.{Begins}
-use Rattle.sf_machine.specs.Checked.Firsts.{beginning_with}
-use Rattle.sf_machine.proofs.Tables.{beginning_same}
+use Rattle.sf_core.specs.Program.Named.{IsFirstNamed}
+use Rattle.std.proofs.lemmas.Bool.{cases_lt}
 use Rattle.sf_run.specs.Checked.Lone.{IsBase}
 use Rattle.sf_run.specs.Sequential.{BeginsSequentially, IsSequentialStart}
 
@@ -35,12 +35,27 @@ fresh-none vars heap unit above k l = elim (some-or_none (get heap k)) [
     below : k < unit → ⊥
     below h = omega (arith, l, h)
 
+-- one number at most is that of the first name that is this one
+first-one : (names : List (List ℕ)) (name : List ℕ) (j k : ℕ) → IsFirstNamed names name (Some j)
+    → IsFirstNamed names name (Some k) → j ≡ k
+first-one names name j k a b = elim (cases_lt j k) [
+  | inl h ↦ absurd (b.1 j h a.0)
+  | inr h ↦ elim (cases_lt k j) [
+    | inl g ↦ absurd (a.1 k g b.0)
+    | inr g ↦ omega (arith, h, g)
+  ]
+]
+
 -- a run begins in one way
 kind-one : (p : Program) (is_fresh : Bool) (b c : Beginning) → IsBeginning p is_fresh b → IsBeginning p is_fresh c
     → b ≡ c
 kind-one p true settled c k l = absurd k
-kind-one p true (fresh n h) c k l =
-    sym (ap (beginning_with n) k.0) ∙ beginning_same p (Some n) true c k.1 l
+kind-one p true (fresh n h) settled k l = absurd l
+kind-one p true (fresh n h) (fresh m g) k l =
+    let same : n.0 ≡ m.0 = first-one (map (λ (f : Procedure). f.name) p.procedures) init_name n.0 m.0 k.1 l.1 in
+    let one : h ≡ g =
+    some-once (slice_get p.procedures n.0) h g k.0 (ap (slice_get p.procedures) same ∙ l.0) in
+    λ i. fresh (record { 0 = same i }) (one i)
 kind-one p false (fresh n h) c k l = absurd k
 kind-one p false settled settled k l = refl
 kind-one p false settled (fresh n h) k l = absurd l

@@ -22,7 +22,7 @@ use sf_foot::{Finish, Start};
 use sf_heap::Cell;
 use sf_io::Gate;
 use sf_machine::{
-    Config, Event, Stepped, answers_are_exclusive, begin, refused_events_do_not_step, step,
+    Config, Event, Stepped, answers_are_exclusive, begin_with, refused_events_do_not_step, step,
 };
 use sf_precise::laws::{ordered_is_determined, orders_from_truncation};
 use sf_sound::proofs_are_sound;
@@ -109,7 +109,7 @@ fn run_sound(
         (Stops (program_of p.now) f start.fresh start.vars start.heap start.unit budget) }
 {
     let first = start.unit;
-    let mut config = begin(alloc, p, f, start)?;
+    let mut config = begin_with(alloc, p, f, start)?;
     match run_alone(alloc, p, &mut config, first, budget.steps)? {
         Halt::Ended => {
             let finish = config.finish(alloc, p, f)?;

@@ -22,7 +22,7 @@ fn start<'p>(alloc: Global, p: &'p Arranged, name: &str, text: &[u8]) -> Option<
     ensures wide { IfSome result (IsWide (program_of p.now.program)) }
 {
     match start_of(alloc, p, name, text) {
-        Some(entered) => begin(alloc, &p.program, entered.f, entered.start).ok(),
+        Some(entered) => begin(alloc, &p.program, entered.f, &entered.start).ok(),
         None => None,
     }
 }
@@ -259,7 +259,7 @@ fn ended(alloc: Global, p: &Arranged, events: &[Move]) -> Result<Option<Vec<u8>>
         return Ok(None);
     };
     let f = entered.f;
-    let mut c = begin(alloc, &p.program, f, entered.start)?;
+    let mut c = begin(alloc, &p.program, f, &entered.start)?;
     if first_refused(alloc, &p.program, &mut c, events)?.is_some() || !c.has_ended() {
         return Ok(None);
     }

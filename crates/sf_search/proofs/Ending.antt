@@ -7,9 +7,11 @@ use Rattle.sf_base.specs.declared.ids.ProcId.{ProcId}
 use Rattle.sf_base.specs.declared.limits.TheConstants.{PROCEDURE_TAGS, FILE_TAGS}
 use Rattle.sf_core.specs.Program.Syntax.{Procedure}
 use Rattle.sf_rules.specs.Checked.Lemmas.RowRules.{row-leaves}
-use Rattle.sf_rules.specs.Rows.Whole.{row}
+use Rattle.sf_rules.specs.Checked.Rows.Whole.{row}
 use Rattle.sf_rules.specs.Setting.{Setting}
-use Rattle.sf_search.specs.Strategy.{Choice, chooses, stays, takes}
+use Rattle.sf_search.specs.declared.choices.choice.Choice.{Choice}
+use Rattle.sf_search.specs.declared.choices.choice.Choice.TheVariants.{Stays as stays, Takes as takes}
+use Rattle.sf_search.specs.Strategy.{strategy}
 use Rattle.sf_rules.specs.First.{first_goal}
 use Rattle.sf_search.specs.Judge.{Chosen, JudgeFrom, Outcome, Search, Verdict, WithinLimit, fails, large, proof, proved, stuck, stuck_at, too_large, with_prefix}
 use Rattle.sf_search.proofs.Reached.{IsReached, reached_first, reached_next, reached_row}
@@ -28,15 +30,15 @@ module _ (d : Setting) (first : Goal) (keeps : KeepsShape d first) where
     within : WithinLimit outcome (n + length tags)
 
   -- at a goal the strategy is stuck, or takes a tag
-  search-goal : (n k : ℕ) (g : Goal) (gs : List Goal) (c : Choice) → chooses g ≡ c → n + k ≡ PROCEDURE_TAGS
-      → ((tag : Tag) → chooses g ≡ takes tag → Ends n (g ∷ gs)) → Ends n (g ∷ gs)
+  search-goal : (n k : ℕ) (g : Goal) (gs : List Goal) (c : Choice) → strategy g ≡ c → n + k ≡ PROCEDURE_TAGS
+      → ((tag : Tag) → strategy g ≡ takes tag → Ends n (g ∷ gs)) → Ends n (g ∷ gs)
   search-goal n k g gs (stays kind) e s taken =
       record { tags = []; outcome = stuck g kind; chosen = (refl, e); within = omega (arith, s) }
   search-goal n k g gs (takes tag) e s taken = taken tag e
 
   -- a tag that is taken leaves goals
   search-left : (n k : ℕ) (g : Goal) (gs : List Goal) (tag : Tag) → IsReached d first n g
-      → n + suc k ≡ PROCEDURE_TAGS → chooses g ≡ takes tag
+      → n + suc k ≡ PROCEDURE_TAGS → strategy g ≡ takes tag
       → ((left : List Goal) → row d g tag ≡ Some left → Ends (n + 1) (left ++ gs)) → Ends n (g ∷ gs)
   search-left n k g gs tag here s e others =
       let left = reached_row d first keeps n g tag (omega (arith, s)) here e in
@@ -53,10 +55,10 @@ module _ (d : Setting) (first : Goal) (keeps : KeepsShape d first) where
       → Ends n goals
   search-ends k n [] a s = record { tags = []; outcome = proved; chosen = tt; within = omega (arith, s) }
   search-ends zero n (g ∷ gs) a s =
-      search-goal n zero g gs (chooses g) refl s
+      search-goal n zero g gs (strategy g) refl s
       (λ tag e. record { tags = []; outcome = large; chosen = (tag, e); within = omega (arith, s) })
   search-ends (suc k) n (g ∷ gs) a s =
-      search-goal n (suc k) g gs (chooses g) refl s
+      search-goal n (suc k) g gs (strategy g) refl s
       (λ tag e. search-left n k g gs tag a.0 s e
       (λ left r. search-ends k (n + 1) (left ++ gs) (reached_next d first n g gs tag left r a) (omega (arith, s))))
 

@@ -9,19 +9,20 @@ use Rattle.std.proofs.lemmas.Bool.{or_parts}
 use Rattle.std.proofs.Math.Bool.{and-or_distrib_right}
 use Rattle.sf_base.proofs.Bools.{or-left_comm, and-right_comm, or-or_comm}
 use Rattle.sf_base.specs.declared.ids.FieldId.{FieldId}
+use Rattle.sf_search.proofs.OneRoot.{one-allocates, one-repeat}
 use Rattle.sf_search.proofs.Settled.{bare, settled-same, stripped}
 use Rattle.sf_search.specs.Checked.Settled.{IsSettled}
-use Rattle.sf_search.specs.Strategy.{forced_ends, lower, lowest, lowest_forced, which}
+use Rattle.sf_search.specs.Strategy.{lower, lowest, lowest_forced, which}
 use Rattle.sf_sym.specs.Cells.{atom_at, cell_at, fields_at, without}
 use Rattle.sf_sym.specs.declared.atom.Atom.{Atom}
 use Rattle.sf_sym.specs.declared.atom.Atom.TheVariants.{Points, Ls, Tree}
 use Rattle.sf_sym.specs.declared.atom.Numbered.{Numbered}
 use Rattle.sf_sym.specs.declared.term.Term.{Term}
 use Rattle.sf_sym.specs.declared.term.Term.TheVariants.{Nil}
-use Rattle.sf_sym.specs.Known.{is_nothing}
+use Rattle.sf_sym.specs.Known.{forced_pair, is_nothing}
 use Rattle.sf_sym.specs.Checked.Lemmas.{points_at, same_term_is}
 use Rattle.sf_sym.specs.State.{State}
-use Rattle.sf_sym.specs.Tests.{allocated, allocates, has_cell, has_repeat, is_absurd, is_constant, is_impossible, is_left_out, parts, root, same_term}
+use Rattle.sf_sym.specs.Tests.{allocated, allocates, has_cell, has_repeat, is_absurd, is_allocated_in, is_constant, is_impossible, is_left_out, parts, root, roots, same_term}
 
 pub or-still : (a b : Bool) → a ≡ false → b ≡ false → a || b ≡ false
 or-still a b e f = ap₂ (λ x y. x || y) e f
@@ -83,13 +84,15 @@ repeat-fewer : (apart : List (Term × Term)) (xs ys : List Numbered) → Fewer x
 repeat-fewer apart [] [] none e = e
 repeat-fewer apart _ _ (kept x xs ys f) e =
     let p : Numbered → Bool = λ b. allocates apart (root x.atom) b.atom in
-    let both = or_parts (list_any p ys && has_cell apart x.atom) (has_repeat apart ys) e in
-    or-still (list_any p xs && has_cell apart x.atom) (has_repeat apart xs)
+    let both = or_parts (list_any p ys && has_cell apart x.atom) (has_repeat apart ys)
+    (sym (one-repeat apart x ys) ∙ e) in
+    one-repeat apart x xs
+    ∙ or-still (list_any p xs && has_cell apart x.atom) (has_repeat apart xs)
     (and-still (list_any p ys) (has_cell apart x.atom) both.0 (list_any p xs) (any-of_fewer p xs ys f))
     (repeat-fewer apart xs ys f both.1)
 repeat-fewer apart _ _ (left_out y xs ys f) e =
-    let p : Numbered → Bool = λ b. allocates apart (root y.atom) b.atom in
-    repeat-fewer apart xs ys f (or_parts (list_any p ys && has_cell apart y.atom) (has_repeat apart ys) e).1
+    repeat-fewer apart xs ys f
+    (or_parts (list_any (is_allocated_in apart ys) (roots y.atom) && has_cell apart y.atom) (has_repeat apart ys) e).1
 
 module _ {X : Type 0} where
   pub lower-none : (a b : Option (ℕ × X)) → lower a b ≡ None → (a ≡ None) × (b ≡ None)
@@ -119,10 +122,10 @@ forced-fewer : (s now : State) → ((u : Term) (o : Option ℕ) → allocated no
     → (xs ys : List Numbered) → Fewer xs ys → lowest_forced s ys ≡ None → lowest_forced now xs ≡ None
 forced-fewer s now less [] [] none e = refl
 forced-fewer s now less _ _ (kept x xs ys g) e =
-    let both = lower-none (option_map (λ z. (x.number, z)) (forced_ends s x.number x.atom)) (lowest_forced s ys) e in
+    let both = lower-none (option_map (λ z. (x.number, z)) (forced_pair s x.number x.atom)) (lowest_forced s ys) e in
     ap₂ lower
     (ap (option_map (λ z. (x.number, z)))
-    (go x.number x.atom (map-none (λ z. (x.number, z)) (forced_ends s x.number x.atom) both.0)))
+    (go x.number x.atom (map-none (λ z. (x.number, z)) (forced_pair s x.number x.atom) both.0)))
     (forced-fewer s now less xs ys g both.1)
   where
     still : (e : Term × Term) (c k a b : Bool) → (b ≡ true → a ≡ true) → cond (c && (k || a)) (Some e) None ≡ None
@@ -133,7 +136,7 @@ forced-fewer s now less _ _ (kept x xs ys g) e =
     still e true false true true l i = absurd (cc)
     still e true false false true l i = let never : false ≡ true = l refl in absurd (cc)
 
-    go : (n : ℕ) (a : Atom) → forced_ends s n a ≡ None → forced_ends now n a ≡ None
+    go : (n : ℕ) (a : Atom) → forced_pair s n a ≡ None → forced_pair now n a ≡ None
     go n (Points u fields) i = refl
     go n (Ls u v) i =
         still (u, v) (not (same_term u v)) (is_constant u) (allocated s u (Some n)) (allocated now u (Some n))
@@ -143,7 +146,7 @@ forced-fewer s now less _ _ (kept x xs ys g) e =
         (less u (Some n)) i
 forced-fewer s now less _ _ (left_out y xs ys g) e =
     forced-fewer s now less xs ys g
-    (lower-none (option_map (λ z. (y.number, z)) (forced_ends s y.number y.atom)) (lowest_forced s ys) e).1
+    (lower-none (option_map (λ z. (y.number, z)) (forced_pair s y.number y.atom)) (lowest_forced s ys) e).1
 
 -- a state with the same pairs and fewer parts isn't absurd where the other isn't
 pub fewer_possible : (s now : State) → now.apart ≡ s.apart → Fewer now.atoms s.atoms → Fewer now.taken s.taken
@@ -198,8 +201,10 @@ same-turned u v = go (same_term u v) (same_term v u) refl refl
 meet-turned : (apart : List (Term × Term)) (x z : Atom)
     → allocates apart (root x) z && has_cell apart x ≡ allocates apart (root z) x && has_cell apart z
 meet-turned apart x z =
-    ap (λ b. (b && has_cell apart z) && has_cell apart x) (same-turned (root z) (root x))
+    ap (λ b. b && has_cell apart x) (one-allocates apart (root x) z)
+    ∙ ap (λ b. (b && has_cell apart z) && has_cell apart x) (same-turned (root z) (root x))
     ∙ and-right_comm (same_term (root x) (root z)) (has_cell apart z) (has_cell apart x)
+    ∙ sym (ap (λ b. b && has_cell apart z) (one-allocates apart (root z) x))
 
 turned : (p q a b x z r : Bool) → p && x ≡ q && z
     → (p || a) && x || (b && z || r) ≡ (q || b) && z || (a && x || r)
@@ -213,19 +218,23 @@ pub repeat-last : (apart : List (Term × Term)) (x : Numbered) (zs : List Number
     → has_repeat apart (x ∷ zs) ≡ has_repeat apart (zs ++ x ∷ [])
 repeat-last apart x [] = refl
 repeat-last apart x (z ∷ zs) =
-    turned (allocates apart (root x.atom) z.atom) (allocates apart (root z.atom) x.atom)
+    one-repeat apart x (z ∷ zs)
+    ∙ ap (λ b. is_allocated_in apart (z ∷ zs) (root x.atom) && has_cell apart x.atom || b) (one-repeat apart z zs)
+    ∙ turned (allocates apart (root x.atom) z.atom) (allocates apart (root z.atom) x.atom)
     (list_any (λ b. allocates apart (root x.atom) b.atom) zs)
     (list_any (λ b. allocates apart (root z.atom) b.atom) zs)
     (has_cell apart x.atom) (has_cell apart z.atom) (has_repeat apart zs) (meet-turned apart x.atom z.atom)
     ∙ ap₂ (λ a b. a && has_cell apart z.atom || b)
-    (any-moved (λ b. allocates apart (root z.atom) b.atom) [] x zs) (repeat-last apart x zs)
+    (any-moved (λ b. allocates apart (root z.atom) b.atom) [] x zs)
+    (sym (one-repeat apart x zs) ∙ repeat-last apart x zs)
+    ∙ sym (one-repeat apart z (zs ++ x ∷ []))
 
 pub repeat-moved : (apart : List (Term × Term)) (before : List Numbered) (x : Numbered) (zs : List Numbered)
     → has_repeat apart (before ++ x ∷ zs) ≡ has_repeat apart (before ++ (zs ++ x ∷ []))
 repeat-moved apart [] x zs = repeat-last apart x zs
 repeat-moved apart (y ∷ before) x zs =
-    ap₂ (λ a b. a && has_cell apart y.atom || b)
-    (any-moved (λ b. allocates apart (root y.atom) b.atom) before x zs) (repeat-moved apart before x zs)
+    ap₂ (λ (p : Term → Bool) b. list_any p (roots y.atom) && has_cell apart y.atom || b)
+    (λ i t. any-moved (λ b. allocates apart t b.atom) before x zs i) (repeat-moved apart before x zs)
 
 -- the atom of that number, and the others
 pub record Found (xs : List Numbered) (a : ℕ) (x : Atom) : Type 0 where

@@ -6,12 +6,13 @@ use Rattle.std.proofs.lemmas.Option.{same_Some}
 use Rattle.std.specs.List.{AllByRecursion, slice_get}
 use Rattle.std.specs.Option.{option_map}
 use Rattle.sf_search.proofs.Lowest.{above-all, forced-above, lower-first, lowest_first, lowest_other}
-use Rattle.sf_search.specs.Strategy.{forced_ends, lower, lowest, lowest_forced}
+use Rattle.sf_search.specs.Strategy.{lower, lowest, lowest_forced}
 use Rattle.sf_sym.specs.Cells.{atom_at, cell_at, fields_at}
 use Rattle.sf_sym.specs.declared.atom.Atom.{Atom}
 use Rattle.sf_sym.specs.declared.atom.Numbered.{Numbered}
 use Rattle.sf_sym.specs.declared.term.Term.{Term}
 use Rattle.sf_sym.specs.Numbers.{AreRising, numbers}
+use Rattle.sf_sym.specs.Known.{forced_pair}
 use Rattle.sf_sym.specs.State.{State}
 
 -- what is so of each element is so of that one
@@ -135,14 +136,14 @@ module _ {X : Type 0} where
 
 -- the lowest forced atom is the atom of its number
 pub found-forced : (s : State) (xs : List Numbered) → AreRising (numbers xs) → (n : ℕ) (e : Term × Term)
-    → lowest_forced s xs ≡ Some (n, e) → (a : Atom) × (atom_at xs n ≡ Some a) × (forced_ends s n a ≡ Some e)
+    → lowest_forced s xs ≡ Some (n, e) → (a : Atom) × (atom_at xs n ≡ Some a) × (forced_pair s n a ≡ Some e)
 found-forced s [] rising n e i = absurd (cc)
-found-forced s (y ∷ ys) rising n e i = go (forced_ends s y.number y.atom) refl (found-forced s ys rising.1 n e)
+found-forced s (y ∷ ys) rising n e i = go (forced_pair s y.number y.atom) refl (found-forced s ys rising.1 n e)
   where
-    go : (o : Option (Term × Term)) → forced_ends s y.number y.atom ≡ o
+    go : (o : Option (Term × Term)) → forced_pair s y.number y.atom ≡ o
         → (lowest_forced s ys ≡ Some (n, e)
-        → (a : Atom) × (atom_at ys n ≡ Some a) × (forced_ends s n a ≡ Some e))
-        → (a : Atom) × (atom_at (y ∷ ys) n ≡ Some a) × (forced_ends s n a ≡ Some e)
+        → (a : Atom) × (atom_at ys n ≡ Some a) × (forced_pair s n a ≡ Some e))
+        → (a : Atom) × (atom_at (y ∷ ys) n ≡ Some a) × (forced_pair s n a ≡ Some e)
     go None h r =
         let rest : lowest_forced s ys ≡ Some (n, e) =
         sym (ap (λ o. lower (option_map (λ z. (y.number, z)) o) (lowest_forced s ys)) h) ∙ i in
@@ -155,5 +156,5 @@ found-forced s (y ∷ ys) rising n e i = go (forced_ends s y.number y.atom) refl
         let pair = same_Some (y.number, z) (n, e) same in (
           y.atom,
           here y ys n (ap (λ q. q.0) pair),
-          subst (λ m. forced_ends s m y.atom ≡ Some e) (ap (λ q. q.0) pair) (h ∙ ap (λ q. Some q.1) pair),
+          subst (λ m. forced_pair s m y.atom ≡ Some e) (ap (λ q. q.0) pair) (h ∙ ap (λ q. Some q.1) pair),
         )

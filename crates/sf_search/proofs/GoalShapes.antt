@@ -14,7 +14,7 @@ use Rattle.sf_rules.specs.Checked.LawsOfSettings.{ArrangedHasSetting}
 use Rattle.sf_rules.specs.Checked.LawsOfShape.{FirstGoalsAreSmall, GoalsAreShaped}
 use Rattle.sf_rules.specs.Checked.Lemmas.FewNew.{few-new_symbols, few-operands}
 use Rattle.sf_rules.specs.declared.few.TheConstants.{TOO_MANY}
-use Rattle.sf_rules.specs.Few.{has_numbers}
+use Rattle.sf_rules.specs.Rules.{has_numbers}
 use Rattle.sf_rules.specs.Setting.{Setting}
 use Rattle.sf_rules.specs.Shape.{CommandFits, HasLinks, IsShaped, TodoFits, WholeFits}
 use Rattle.sf_search.specs.Checked.ShapeLaws.{ArrangedIsSetUp, GoalsHaveShape}

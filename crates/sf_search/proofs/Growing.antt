@@ -16,12 +16,12 @@ use Rattle.sf_core.specs.declared.fields.Links.{Links}
 use Rattle.sf_core.specs.Program.Syntax.{new, Conjunct, holds, points, segment, tree, choose, Conjuncts, none, also}
 use Rattle.sf_normal.specs.Knowledge.{unroll_one, unroll_row, unrolled}
 use Rattle.sf_produce.specs.Add.{added, add_first, goal_after, met, met_both, met_existential, met_fields}
-use Rattle.sf_rules.specs.Few.{has_numbers}
+use Rattle.sf_rules.specs.Rules.{has_numbers, with_var}
 use Rattle.sf_rules.specs.Checked.Lemmas.{few-left}
-use Rattle.sf_rules.specs.Rows.Add.{assume_row}
-use Rattle.sf_rules.specs.Rows.Commands.{new_row, with_var}
-use Rattle.sf_rules.specs.Rows.Front.{at_add, at_command}
-use Rattle.sf_rules.specs.Rows.Whole.{row, row_of}
+use Rattle.sf_rules.specs.Checked.Rows.Add.{assume_row}
+use Rattle.sf_rules.specs.Checked.Rows.Commands.{new_row}
+use Rattle.sf_rules.specs.Checked.Rows.Front.{at_add, at_command}
+use Rattle.sf_rules.specs.Checked.Rows.Whole.{row, row_of}
 use Rattle.sf_rules.specs.Setting.{Setting}
 use Rattle.sf_search.proofs.Fewer.{all-fewer, fewer_possible, fewer_settled, without-fewer}
 use Rattle.sf_search.proofs.Grown.{grown-bare, grown-roots, grown-settled, known-end, known-more}
@@ -32,7 +32,8 @@ use Rattle.sf_search.proofs.StillKnown.{known-stays, roots-without}
 use Rattle.sf_search.specs.declared.choices.growth.Size.{Size}
 use Rattle.sf_search.specs.Checked.Growth.{IsFirstKnown, IsKnown, IsOpenedFree, came_bare, grown_bare, grown_roots, grows_settled, has_no_cells, has_settled_growth, is_settled_growth, known_end, leaves_bare, leaves_roots, leaves_settled, roots_came, staying}
 use Rattle.sf_search.specs.Checked.Settled.{IsFirstPossible, IsFirstSettled, IsSettled, keeps_settled, leaves_possible}
-use Rattle.sf_search.specs.Strategy.{chooses, takes}
+use Rattle.sf_search.specs.declared.choices.choice.Choice.TheVariants.{Takes as takes}
+use Rattle.sf_search.specs.Checked.Chooses.{chooses}
 use Rattle.sf_sym.specs.Cells.{atom_at, apart_from_nil, with_atom, with_cell, without}
 use Rattle.sf_sym.specs.declared.atom.Atom.{Atom}
 use Rattle.sf_sym.specs.declared.atom.Atom.TheVariants.{Points, Ls, Tree}

@@ -13,20 +13,21 @@ use Rattle.std.proofs.Math.Seq.{drop-append_seam, take-append_seam}
 use Rattle.sf_base.proofs.Elements.{all_by-append}
 use Rattle.sf_search.proofs.Fewer.{any-moved, lower-none, or-still, repeat-last, repeat-moved, same-turned}
 use Rattle.sf_search.proofs.Lowest.{lowest_append}
+use Rattle.sf_search.proofs.OneRoot.{one-allocates, one-any, one-repeat}
 use Rattle.sf_search.proofs.Settled.{forced-stripped, settled-same, stripped}
 use Rattle.sf_search.specs.declared.choices.growth.Size.{Size}
 use Rattle.sf_search.specs.Checked.Growth.{BeginBelow, IsKnown, IsOpenedFree, RootsBelow, are_alone, came_bare, end_of, has_no_cells, has_points, has_settled_growth, is_alone, is_bare, is_clear, is_free, is_free_before, is_free_pair, is_opened, is_points, is_settled_growth, is_symbol_below, is_uncovered, is_unused, known_end, next_end, roots_came}
 use Rattle.sf_search.specs.Checked.Settled.{IsSettled}
-use Rattle.sf_search.specs.Strategy.{forced_ends, lower, lowest_forced, which}
+use Rattle.sf_search.specs.Strategy.{lower, lowest_forced, which}
 use Rattle.sf_sym.specs.declared.atom.Atom.{Atom}
 use Rattle.sf_sym.specs.declared.atom.Atom.TheVariants.{Points, Ls, Tree}
 use Rattle.sf_sym.specs.declared.atom.Numbered.{Numbered}
 use Rattle.sf_sym.specs.declared.term.Term.{Term}
 use Rattle.sf_sym.specs.declared.term.Term.TheVariants.{Nil, Int, Sym}
-use Rattle.sf_sym.specs.Known.{is_nothing}
+use Rattle.sf_sym.specs.Known.{forced_pair, is_nothing}
 use Rattle.sf_sym.specs.Checked.Lemmas.{same_term_is}
 use Rattle.sf_sym.specs.State.{State}
-use Rattle.sf_sym.specs.Tests.{allocated, allocates, differs_at_once, has_cell, has_repeat, is_constant, is_impossible, is_integer_tree, is_left_out, is_pair, parts, root, same_term}
+use Rattle.sf_sym.specs.Tests.{allocated, allocates, begins as begins_at, differs_at_once, has_cell, has_repeat, is_constant, is_impossible, is_integer_tree, is_left_out, is_pair, parts, root, roots, same_term}
 
 -- Truth values
 or-none : (b : Bool) → b || false ≡ b
@@ -108,9 +109,9 @@ module _ (apart now : List (Term × Term)) where
   repeat-alike : (xs : List Numbered) → SameCells apart now xs → has_repeat now xs ≡ has_repeat apart xs
   repeat-alike [] all = refl
   repeat-alike (x ∷ xs) all = ap₂ (λ a b. a || b)
-      (ap₂ (λ a b. a && b)
-      (any-alike (λ b. allocates now (root x.atom) b.atom) (λ b. allocates apart (root x.atom) b.atom)
-      (λ b same. ap (λ c. same_term (root b.atom) (root x.atom) && c) same) xs all.1)
+      (ap₂ (λ (p : Term → Bool) b. list_any p (roots x.atom) && b)
+      (λ i t. any-alike (λ b. allocates now t b.atom) (λ b. allocates apart t b.atom)
+      (λ b same. ap (λ c. begins_at t b.atom && c) same) xs all.1 i)
       all.0)
       (repeat-alike xs all.1)
 
@@ -131,7 +132,7 @@ pair-settled s q free known =
           ∙ ap (λ b. list_any (λ p. same_term p.0 p.1) s.apart || (b || false))
           (not-so (same_term q.0 q.1) apart-so.0) ∙ or-none (list_any (λ p. same_term p.0 p.1) s.apart))
           (any-alike s.apart now.apart (λ a. is_impossible now.apart a.atom) (λ a. is_impossible s.apart a.atom)
-          (λ a same. ap (λ c. is_constant (root a.atom) && c || is_integer_tree a.atom) same) (parts s) cells))
+          (λ a same. ap (λ c. list_any is_constant (roots a.atom) && c || is_integer_tree a.atom) same) (parts s) cells))
           (repeat-alike s.apart now.apart (parts s) cells)
           ∙ known.possible;
       none_empty = known.none_empty;
@@ -140,7 +141,7 @@ pair-settled s q free known =
           ∙ forced-stripped s now
           (λ u o. any-alike s.apart now.apart (λ a. not (is_left_out o a.number) && allocates now.apart u a.atom)
           (λ a. not (is_left_out o a.number) && allocates s.apart u a.atom)
-          (λ a same. ap (λ c. not (is_left_out o a.number) && (same_term (root a.atom) u && c)) same) (parts s) cells)
+          (λ a same. ap (λ c. not (is_left_out o a.number) && (begins_at u a.atom && c)) same) (parts s) cells)
           s.atoms ∙ known.none_forced;
     }
 
@@ -165,7 +166,7 @@ module _ (s : State) (x : Numbered) where
 
   part-unforced : (a : Atom) → is_constant (root a) ≡ false
       → allocated (record s { atoms = s.atoms ++ x ∷ [] }) (root a) (Some x.number) ≡ false
-      → forced_ends (record s { atoms = s.atoms ++ x ∷ [] }) x.number a ≡ None
+      → forced_pair (record s { atoms = s.atoms ++ x ∷ [] }) x.number a ≡ None
   part-unforced (Points u fields) e f = refl
   part-unforced (Ls u v) e f =
       ap₂ (λ c b. cond (not (same_term u v) && (c || b)) (Some (u, v)) None) e f
@@ -185,17 +186,19 @@ module _ (s : State) (x : Numbered) (constant : is_constant (root x.atom) ≡ fa
       → list_any (λ a. p a && allocates s.apart (root x.atom) a.atom) (parts s) ≡ false
   part-no_other p =
       any-less (λ a. p a && allocates s.apart (root x.atom) a.atom) (begins (root x.atom))
-      (λ a e. ap (λ b. p a && (b && has_cell s.apart a.atom)) e ∙ and-none (p a)) (parts s) unused
+      (λ a e. ap (λ b. p a && b) (one-allocates s.apart (root x.atom) a.atom)
+      ∙ ap (λ b. p a && (b && has_cell s.apart a.atom)) e ∙ and-none (p a)) (parts s) unused
 
   part-repeat : has_repeat s.apart ((s.atoms ++ x ∷ []) ++ s.taken) ≡ has_repeat s.apart (parts s)
   part-repeat =
       part-regrouped s x (has_repeat s.apart) (λ bs zs. repeat-moved s.apart bs x zs)
-      ∙ sym (repeat-last s.apart x (parts s))
+      ∙ sym (repeat-last s.apart x (parts s)) ∙ one-repeat s.apart x (parts s)
       ∙ ap (λ b. b && has_cell s.apart x.atom || has_repeat s.apart (parts s)) (part-no_other (λ a. true))
 
   part-impossible : is_impossible s.apart x.atom ≡ false
   part-impossible =
-      ap (λ b. b && has_cell s.apart x.atom || is_integer_tree x.atom) constant ∙ part-tree x.atom constant
+      ap (λ b. b && has_cell s.apart x.atom || is_integer_tree x.atom) (one-any is_constant x.atom ∙ constant)
+      ∙ part-tree x.atom constant
 
   -- elsewhere there is a cell where there was one
   part-elsewhere : (u : Term) (o : Option ℕ) → same_term u (root x.atom) ≡ false
@@ -203,12 +206,13 @@ module _ (s : State) (x : Numbered) (constant : is_constant (root x.atom) ≡ fa
   part-elsewhere u o e =
       part-any s x (λ a. not (is_left_out o a.number) && allocates s.apart u a.atom)
       ∙ ap (λ b. allocated s u o || b)
-      (ap (λ b. not (is_left_out o x.number) && (b && has_cell s.apart x.atom)) (same-turned (root x.atom) u ∙ e)
+      (ap (λ b. not (is_left_out o x.number) && (b && has_cell s.apart x.atom))
+      (one-any (λ r. same_term r u) x.atom ∙ same-turned (root x.atom) u ∙ e)
       ∙ and-none (not (is_left_out o x.number)))
       ∙ or-none (allocated s u o)
 
   part-ends : (n : ℕ) (a : Atom) → same_term (root a) (root x.atom) ≡ false
-      → forced_ends (record s { atoms = s.atoms ++ x ∷ [] }) n a ≡ forced_ends s n a
+      → forced_pair (record s { atoms = s.atoms ++ x ∷ [] }) n a ≡ forced_pair s n a
   part-ends n (Points u fields) e = refl
   part-ends n (Ls u v) e =
       ap (λ b. cond (not (same_term u v) && (is_constant u || b)) (Some (u, v)) None)
@@ -230,7 +234,7 @@ module _ (s : State) (x : Numbered) (constant : is_constant (root x.atom) ≡ fa
       ap (λ o. lower (option_map (λ y. (x.number, y)) o) None) (part-unforced s x x.atom constant part-own)
   part-forced (z ∷ zs) e f =
       let here = or_parts (begins (root x.atom) z) (list_any (begins (root x.atom)) zs) e in
-      let both = lower-none (option_map (λ y. (z.number, y)) (forced_ends s z.number z.atom)) (lowest_forced s zs) f in
+      let both = lower-none (option_map (λ y. (z.number, y)) (forced_pair s z.number z.atom)) (lowest_forced s zs) f in
       ap₂ lower (ap (option_map (λ y. (z.number, y))) (part-ends z.number z.atom here.0) ∙ both.0)
       (part-forced zs here.1 both.1)
 
@@ -269,7 +273,9 @@ module _ (s : State) (x : Numbered) (constant : is_constant (root x.atom) ≡ fa
 
   -- it has no cell itself
   bare-cell : has_cell s.apart x.atom ≡ false
-  bare-cell = sym (ap (λ b. b && has_cell s.apart x.atom) (same-self (root x.atom))) ∙ bare-parts.1
+  bare-cell =
+      sym (one-allocates s.apart (root x.atom) x.atom
+      ∙ ap (λ b. b && has_cell s.apart x.atom) (same-self (root x.atom))) ∙ bare-parts.1
 
   -- so there is a cell where there was one
   bare-elsewhere : (u : Term) (o : Option ℕ)
@@ -277,8 +283,8 @@ module _ (s : State) (x : Numbered) (constant : is_constant (root x.atom) ≡ fa
   bare-elsewhere u o =
       part-any s x (λ a. not (is_left_out o a.number) && allocates s.apart u a.atom)
       ∙ ap (λ b. allocated s u o || b)
-      (ap (λ b. not (is_left_out o x.number) && (same_term (root x.atom) u && b)) bare-cell
-      ∙ ap (λ b. not (is_left_out o x.number) && b) (and-none (same_term (root x.atom) u))
+      (ap (λ b. not (is_left_out o x.number) && (begins_at u x.atom && b)) bare-cell
+      ∙ ap (λ b. not (is_left_out o x.number) && b) (and-none (begins_at u x.atom))
       ∙ and-none (not (is_left_out o x.number)))
       ∙ or-none (allocated s u o)
 
@@ -290,7 +296,7 @@ module _ (s : State) (x : Numbered) (constant : is_constant (root x.atom) ≡ fa
       (λ a e. ap (λ b. not (is_left_out (Some x.number) a.number) && b) e
       ∙ and-none (not (is_left_out (Some x.number) a.number))) (parts s) bare-parts.0
 
-  bare-ends : (n : ℕ) (a : Atom) → forced_ends (record s { atoms = s.atoms ++ x ∷ [] }) n a ≡ forced_ends s n a
+  bare-ends : (n : ℕ) (a : Atom) → forced_pair (record s { atoms = s.atoms ++ x ∷ [] }) n a ≡ forced_pair s n a
   bare-ends n (Points u fields) = refl
   bare-ends n (Ls u v) =
       ap (λ b. cond (not (same_term u v) && (is_constant u || b)) (Some (u, v)) None) (bare-elsewhere u (Some n))
@@ -303,18 +309,19 @@ module _ (s : State) (x : Numbered) (constant : is_constant (root x.atom) ≡ fa
   bare-forced [] f =
       ap (λ o. lower (option_map (λ y. (x.number, y)) o) None) (part-unforced s x x.atom constant bare-own)
   bare-forced (z ∷ zs) f =
-      let both = lower-none (option_map (λ y. (z.number, y)) (forced_ends s z.number z.atom)) (lowest_forced s zs) f in
+      let both = lower-none (option_map (λ y. (z.number, y)) (forced_pair s z.number z.atom)) (lowest_forced s zs) f in
       ap₂ lower (ap (option_map (λ y. (z.number, y))) (bare-ends z.number z.atom) ∙ both.0) (bare-forced zs both.1)
 
   bare-repeat : has_repeat s.apart ((s.atoms ++ x ∷ []) ++ s.taken) ≡ has_repeat s.apart (parts s)
   bare-repeat =
       part-regrouped s x (has_repeat s.apart) (λ bs zs. repeat-moved s.apart bs x zs)
-      ∙ sym (repeat-last s.apart x (parts s))
+      ∙ sym (repeat-last s.apart x (parts s)) ∙ one-repeat s.apart x (parts s)
       ∙ ap (λ b. b && has_cell s.apart x.atom || has_repeat s.apart (parts s)) bare-parts.0
 
   bare-impossible : is_impossible s.apart x.atom ≡ false
   bare-impossible =
-      ap (λ b. b && has_cell s.apart x.atom || is_integer_tree x.atom) constant ∙ part-tree x.atom constant
+      ap (λ b. b && has_cell s.apart x.atom || is_integer_tree x.atom) (one-any is_constant x.atom ∙ constant)
+      ∙ part-tree x.atom constant
 
   bare-settled : IsSettled s → IsSettled (record s { atoms = s.atoms ++ x ∷ [] })
   bare-settled known = record {
@@ -343,10 +350,10 @@ no-cell (Int i) a e f = absurd (cc)
 no-cell (Sym m) (Points t fields) e f = absurd (cc)
 no-cell (Sym m) (Ls Nil u) e f = refl
 no-cell (Sym m) (Ls (Int i) u) e f = refl
-no-cell (Sym m) (Ls (Sym k) u) e f = and-none (k == m)
+no-cell (Sym m) (Ls (Sym k) u) e f = and-none (k == m || false)
 no-cell (Sym m) (Tree Nil) e f = refl
 no-cell (Sym m) (Tree (Int i)) e f = refl
-no-cell (Sym m) (Tree (Sym k)) e f = and-none (k == m)
+no-cell (Sym m) (Tree (Sym k)) e f = and-none (k == m || false)
 
 -- what is known of the parts of a state
 abbrev pub NoPoints : State → Type 0

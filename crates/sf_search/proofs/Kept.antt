@@ -14,21 +14,22 @@ use Rattle.sf_consume.specs.declared.wanted.WantedList.{WantedList}
 use Rattle.sf_consume.specs.Wants.{wanting}
 use Rattle.sf_core.specs.Program.Syntax.{Command, assign, look_up, mutate, dispose, if, while, call, fork, with, Conjunct, Conjuncts, none, also, Procedure}
 use Rattle.sf_rules.specs.Checked.Lemmas.{few-left}
-use Rattle.sf_rules.specs.Rows.Branches.{branch_row, chosen}
-use Rattle.sf_rules.specs.Rows.Calls.{called, call_row, forked, fork_row, give_row}
-use Rattle.sf_rules.specs.Rows.Commands.{assign_row, dispose_row, looked, look_row, mutate_row, with_var}
-use Rattle.sf_rules.specs.Rows.Front.{at_command, at_again, at_exit, at_gave, at_head, at_return, at_take}
-use Rattle.sf_rules.specs.Rows.Ends.{return_row}
-use Rattle.sf_rules.specs.Rows.Loops.{after_loop, again_row, around_row, body_once, loop_row, unknown_in}
-use Rattle.sf_rules.specs.Rows.Regions.{entered, enter_row, exit_row}
-use Rattle.sf_rules.specs.Rows.Take.{subtract_row}
-use Rattle.sf_rules.specs.Rows.Whole.{row, row_of}
+use Rattle.sf_rules.specs.Checked.Rows.Branches.{branch_row, chosen}
+use Rattle.sf_rules.specs.Checked.Rows.Calls.{called, call_row, forked, fork_row, give_row}
+use Rattle.sf_rules.specs.Checked.Rows.Commands.{assign_row, dispose_row, looked, look_row, mutate_row}
+use Rattle.sf_rules.specs.Rules.{with_var, unknown_in, has_numbers}
+use Rattle.sf_rules.specs.Checked.Rows.Front.{at_command, at_again, at_exit, at_gave, at_head, at_return, at_take}
+use Rattle.sf_rules.specs.Checked.Rows.Ends.{return_row}
+use Rattle.sf_rules.specs.Checked.Rows.Loops.{after_loop, again_row, around_row, body_once, loop_row}
+use Rattle.sf_rules.specs.Checked.Rows.Regions.{entered, enter_row, exit_row}
+use Rattle.sf_rules.specs.Checked.Rows.Take.{subtract_row}
+use Rattle.sf_rules.specs.Checked.Rows.Whole.{row, row_of}
 use Rattle.sf_rules.specs.Setting.{Setting}
-use Rattle.sf_rules.specs.Few.{has_numbers}
 use Rattle.sf_search.proofs.Fewer.{all-fewer, cell-atom, Fewer, fewer_settled, handed-settled, none-fewer, without-fewer}
 use Rattle.sf_search.proofs.Settled.{bare, settled-by, settled-same, stripped, written-stripped}
 use Rattle.sf_search.specs.Checked.Settled.{IsFirstSettled, IsSettled, keeps_settled}
-use Rattle.sf_search.specs.Strategy.{chooses, takes}
+use Rattle.sf_search.specs.declared.choices.choice.Choice.TheVariants.{Takes as takes}
+use Rattle.sf_search.specs.Checked.Chooses.{chooses}
 use Rattle.sf_sym.specs.Cells.{atom_at, cell_at, handed, state_after_write, with_fields, without}
 use Rattle.sf_sym.specs.Decided.{term_of}
 use Rattle.sf_sym.specs.declared.atom.Atom.{Atom}

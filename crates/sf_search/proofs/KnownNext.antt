@@ -1,7 +1,7 @@
 -- What a search knows of the next goal's state is so.
 -- Names: `known_of_first` of the first of the open goals.
 use Rattle.std.proofs.Common.{◌≡◌, Some, List, ◌∷◌, ◌++◌, sym, subst}
-use Rattle.sf_rules.specs.Rows.Whole.{row}
+use Rattle.sf_rules.specs.Checked.Rows.Whole.{row}
 use Rattle.sf_rules.specs.Setting.{Setting}
 use Rattle.sf_search.proofs.Growing.{first_left_known, first_left_possible, first_left_settled}
 use Rattle.sf_search.proofs.Sole.{Numbers}
@@ -9,7 +9,8 @@ use Rattle.sf_search.specs.declared.verdicts.Known.{Known}
 use Rattle.sf_search.specs.Checked.Growth.{IsFirstKnown, leaves_roots, staying}
 use Rattle.sf_search.specs.Checked.Knowing.{IsKnownAfter, IsKnownOfFirst}
 use Rattle.sf_search.specs.Checked.Settled.{IsFirstPossible, IsFirstSettled}
-use Rattle.sf_search.specs.Strategy.{chooses, takes}
+use Rattle.sf_search.specs.declared.choices.choice.Choice.TheVariants.{Takes as takes}
+use Rattle.sf_search.specs.Checked.Chooses.{chooses}
 use Rattle.sf_sym.specs.declared.tag.Tag.{Tag}
 use Rattle.sf_sym.specs.Goal.{Goal}
 

@@ -1,15 +1,15 @@
 -- Searches and stacks of goals.
 -- Names: `leads-LAW` of what a search has chosen so far.
-use Rattle.std.proofs.Common.{◌≡◌, ℕ, zero, suc, ◌<◌, Option, Some, None, IfSome, List, [], ◌∷◌, ◌++◌, length, drop, map, refl, sym, ap, subst, append_assoc, arith}
+use Rattle.std.proofs.Common.{◌≡◌, Option, Some, None, IfSome, List, [], ◌∷◌, ◌++◌, length, map, refl, sym, ap, subst, append_assoc, arith, ◌∙◌}
 use Rattle.std.proofs.lemmas.List.{append-nil, reverse-append}
-use Rattle.std.proofs.lemmas.Option.{same_Some}
-use Rattle.std.specs.List.{slice_get}
 use Rattle.sf_rules.specs.Checked.Children.{stack_of}
 use Rattle.sf_rules.specs.Checked.Lemmas.RowRules.{row-leaves}
-use Rattle.sf_rules.specs.Rows.Whole.{row}
+use Rattle.sf_rules.specs.Checked.Rows.Whole.{row}
 use Rattle.sf_rules.specs.Setting.{Setting}
-use Rattle.sf_search.specs.Strategy.{chooses, takes}
+use Rattle.sf_search.specs.declared.choices.choice.Choice.TheVariants.{Takes as takes}
+use Rattle.sf_search.specs.Checked.Chooses.{chooses}
 use Rattle.sf_search.specs.Judge.{Chosen, Outcome}
+use Rattle.sf_search.proofs.Told.{told}
 use Rattle.sf_sym.specs.declared.tag.Tag.{Tag}
 use Rattle.sf_sym.specs.declared.goal.Goal.{Goal as CodeGoal}
 use Rattle.sf_sym.specs.Goal.{Goal, goal_of}
@@ -23,7 +23,7 @@ pub leads_on : (d : Setting) (from gs : List Goal) (g : Goal) (tags : List Tag) 
     → Leads d from (left ++ gs) (tags ++ tag ∷ [])
 leads_on d from gs g tags tag left l c r =
     λ rest o h. subst (λ ts. Chosen d from ts o) (sym (append_assoc tags (tag ∷ []) rest))
-    (l (tag ∷ rest) o (c, left, row-leaves d g tag left r, h))
+    (l (tag ∷ rest) o (sym (told g) ∙ c, left, row-leaves d g tag left r, h))
 
 pub leads_end : (d : Setting) (from gs : List Goal) (tags : List Tag) (o : Outcome) → Leads d from gs tags
     → Chosen d gs [] o → Chosen d from tags o
@@ -42,14 +42,3 @@ no_goals (x ∷ xs) e = absurd (omega (arith, e))
 pub some_weaker : {X : Type 0} (P Q : X → Type 0) (o : Option X) → ((x : X) → P x → Q x) → IfSome o P → IfSome o Q
 some_weaker P Q None h k = tt
 some_weaker P Q (Some x) h k = h x k
-
--- the procedure of that number
-pub at_index : {X : Type 0} (xs : List X) (i : ℕ) → i < length xs
-    → (x : X) × (slice_get xs i ≡ Some x) × (drop i xs ≡ x ∷ drop (suc i) xs)
-at_index [] i l = absurd (omega (arith, l))
-at_index (x ∷ xs) zero l = (x, refl, refl)
-at_index (x ∷ xs) (suc i) l = at_index xs i (omega (arith, l))
-
-pub some_at : {X : Type 0} (P : X → Type 0) (o : Option X) (x : X) → o ≡ Some x → IfSome o P → P x
-some_at P None x e h = absurd (cc)
-some_at P (Some y) x e h = subst P (same_Some y x e) h

@@ -3,12 +3,14 @@ pub mod Views
 pub mod Trees
 pub mod Once
 pub mod Found
+pub mod Told
 pub mod GoalShapes
 pub mod Rows
 pub mod Taken
 pub mod Reached
 pub mod Ending
 pub mod Settled
+pub mod OneRoot
 pub mod Fewer
 pub mod Grown
 pub mod Sole
@@ -17,4 +19,3 @@ pub mod KnownNext
 pub mod Kept
 pub mod StillKnown
 pub mod Leading
-pub mod Judging

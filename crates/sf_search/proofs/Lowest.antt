@@ -10,10 +10,13 @@ use Rattle.sf_sym.specs.declared.atom.Atom.{Atom}
 use Rattle.sf_sym.specs.declared.atom.Numbered.{Numbered}
 use Rattle.sf_sym.specs.declared.tag.Tag.TheVariants as t
 use Rattle.sf_sym.specs.declared.term.Term.{Term}
-use Rattle.sf_sym.specs.Known.{first_forced, first_nothing, is_nothing, or_else as first}
+use Rattle.sf_sym.specs.Known.{forced_pair, first_forced, first_nothing, is_nothing, or_else as first}
 use Rattle.sf_sym.specs.Numbers.{AreRising, numbers}
 use Rattle.sf_sym.specs.State.{State}
-use Rattle.sf_search.specs.Strategy.{Choice, forced_ends, found_or, lower, lowest, lowest_forced, or_else, takes, takes_if, which}
+use Rattle.sf_search.specs.declared.choices.choice.Choice.{Choice}
+use Rattle.sf_search.specs.declared.choices.choice.Choice.TheVariants.{Takes as takes}
+use Rattle.sf_search.specs.Strategy.{lower, lowest, lowest_forced, or_else, which}
+use Rattle.sf_search.specs.Checked.Chooses.{found_or, takes_if}
 
 -- a number below another isn't above it
 not-above : (m n : ℕ) (b : Bool) → n < m → nat_lt m n ≡ b → b ≡ false
@@ -120,14 +123,14 @@ pub forced-above : (s : State) (n : ℕ) (xs : List Numbered) → AllByRecursion
     → (b : ℕ × (Term × Term)) → lowest_forced s xs ≡ Some b → n < b.0
 forced-above s n [] all b e = absurd (cc)
 forced-above s n (x ∷ xs) all b e =
-    lower_above n x.number all.0 (forced_ends s x.number x.atom) (lowest_forced s xs) (forced-above s n xs all.1) b e
+    lower_above n x.number all.0 (forced_pair s x.number x.atom) (lowest_forced s xs) (forced-above s n xs all.1) b e
 
 -- the first forced atom is the lowest one
 pub forced_is_lowest : (s : State) (xs : List Numbered) → AreRising (numbers xs)
     → option_map (λ f. f.0) (lowest_forced s xs) ≡ option_map (λ f. f.0) (first_forced s xs)
 forced_is_lowest s [] rising = refl
 forced_is_lowest s (x ∷ xs) rising =
-    go (forced_ends s x.number x.atom) (forced_is_lowest s xs rising.1)
+    go (forced_pair s x.number x.atom) (forced_is_lowest s xs rising.1)
   where
     go : (o : Option (Term × Term))
         → option_map (λ f. f.0) (lowest_forced s xs) ≡ option_map (λ f. f.0) (first_forced s xs)

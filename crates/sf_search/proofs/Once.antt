@@ -4,10 +4,12 @@ use Rattle.std.proofs.Common.{◌≡◌, ℕ, suc, ◌+◌, ◌≤◌, inl, inr,
 use Rattle.sf_base.specs.declared.limits.TheConstants.{PROCEDURE_TAGS}
 use Rattle.sf_core.specs.Program.Syntax.{Procedure}
 use Rattle.sf_rules.specs.Checked.Lemmas.RuleRows.{leaves-row}
-use Rattle.sf_rules.specs.Rows.Whole.{row}
+use Rattle.sf_rules.specs.Checked.Rows.Whole.{row}
 use Rattle.sf_rules.specs.Rules.{Leaves}
 use Rattle.sf_rules.specs.Setting.{Setting}
-use Rattle.sf_search.specs.Strategy.{Kind, chooses, stays, takes}
+use Rattle.sf_search.specs.declared.choices.choice.Choice.TheVariants.{Stays as stays, Takes as takes}
+use Rattle.sf_sym.specs.declared.stuck.Stuck.{Stuck}
+use Rattle.sf_search.specs.Strategy.{strategy}
 use Rattle.sf_rules.specs.First.{first_goal}
 use Rattle.sf_search.specs.Judge.{Chosen, Continues, JudgedAfter, JudgeFrom, Outcome, Search, Verdict, WithinLimit, large, proved, stuck, with_prefix}
 use Rattle.sf_search.specs.Checked.Laws.{SearchIsUnique, VerdictsAreUnique}
@@ -25,8 +27,8 @@ module _ (d : Setting) where
 
   -- with a goal and no tag the strategy is stuck there, or would take one more
   data Stops (g : Goal) (o : Outcome) : Type 0 where
-    stays_there : (kind : Kind) → chooses g ≡ stays kind → o ≡ stuck g kind → Stops g o
-    would_take : (tag : Tag) → chooses g ≡ takes tag → o ≡ large → Stops g o
+    stays_there : (kind : Stuck) → strategy g ≡ stays kind → o ≡ stuck g kind → Stops g o
+    would_take : (tag : Tag) → strategy g ≡ takes tag → o ≡ large → Stops g o
 
   chosen-stops : (g : Goal) (gs : List Goal) (o : Outcome) → Chosen d (g ∷ gs) [] o → Stops g o
   chosen-stops g gs proved c = absurd c
@@ -42,7 +44,7 @@ module _ (d : Setting) where
   large-limit : (o : Outcome) (n : ℕ) → o ≡ large → WithinLimit o n → n ≡ PROCEDURE_TAGS
   large-limit o n e l = let m : WithinLimit large n = subst (λ z. WithinLimit z n) e l in m
 
-  not-both : (g : Goal) (tag : Tag) (kind : Kind) → chooses g ≡ takes tag → chooses g ≡ stays kind → ⊥
+  not-both : (g : Goal) (tag : Tag) (kind : Stuck) → strategy g ≡ takes tag → strategy g ≡ stays kind → ⊥
   not-both g tag kind a b = let e : takes tag ≡ stays kind = sym a ∙ b in absurd (cc)
 
   stops-once : (n : ℕ) (g : Goal) (o q : Outcome) → Stops g o → Stops g q → WithinLimit o n → WithinLimit q n → o ≡ q
@@ -54,12 +56,12 @@ module _ (d : Setting) where
   stops-once n g o q (would_take t a e) (stays_there k b f) l m = absurd (not-both g t k a b)
   stops-once n g o q (would_take t a e) (would_take u b f) l m = e ∙ sym f
 
-  same-tag : (g : Goal) (t u : Tag) → chooses g ≡ takes t → chooses g ≡ takes u → t ≡ u
+  same-tag : (g : Goal) (t u : Tag) → strategy g ≡ takes t → strategy g ≡ takes u → t ≡ u
   same-tag g t u a b = let e : takes t ≡ takes u = sym a ∙ b in cc
 
   -- where a search stops no other one goes on
   stops-there : (n : ℕ) (g : Goal) (u : Tag) (us : List Tag) (left : List Goal) (o q : Outcome) → Stops g o
-      → chooses g ≡ takes u → Leaves d g u left → WithinLimit o (n + 0)
+      → strategy g ≡ takes u → Leaves d g u left → WithinLimit o (n + 0)
       → WithinLimit q (n + suc (length us)) → ⊥
   stops-there n g u us left o q (stays_there k a e) c r l m = not-both g u k c a
   stops-there n g u us left o q (would_take t a e) c r l m =

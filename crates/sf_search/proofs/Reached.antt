@@ -7,13 +7,14 @@ use Rattle.sf_base.proofs.Elements.{all_by-append, contains-cons}
 use Rattle.sf_base.specs.declared.limits.TheConstants.{PROCEDURE_TAGS}
 use Rattle.sf_rules.specs.Checked.Lemmas.RowRules.{row-leaves}
 use Rattle.sf_rules.specs.Checked.Lemmas.RuleRows.{leaves-row}
-use Rattle.sf_rules.specs.Rows.Whole.{row}
+use Rattle.sf_rules.specs.Checked.Rows.Whole.{row}
 use Rattle.sf_rules.specs.Setting.{Setting}
 use Rattle.sf_rules.specs.Shape.{IsGoalAfter}
 use Rattle.sf_search.proofs.Taken.{taken_tags_have_rows}
 use Rattle.sf_search.specs.Checked.Laws.{TakenTagsHaveRows}
 use Rattle.sf_search.specs.Checked.ShapeLaws.{KeepsShape}
-use Rattle.sf_search.specs.Strategy.{chooses, takes}
+use Rattle.sf_search.specs.declared.choices.choice.Choice.TheVariants.{Takes as takes}
+use Rattle.sf_search.specs.Strategy.{strategy}
 use Rattle.sf_sym.specs.declared.tag.Tag.{Tag}
 use Rattle.sf_sym.specs.Goal.{Goal}
 
@@ -53,7 +54,7 @@ module _ (d : Setting) (first : Goal) where
 
   -- the tag that the strategy takes there has a row
   pub reached_row : KeepsShape d first → (m : ℕ) (g : Goal) (tag : Tag) → m ≤ PROCEDURE_TAGS → IsReached m g
-      → chooses g ≡ takes tag → (left : List Goal) × (row d g tag ≡ Some left)
+      → strategy g ≡ takes tag → (left : List Goal) × (row d g tag ≡ Some left)
   unfolding TakenTagsHaveRows
   reached_row keeps m g tag l a c =
       let shape = keeps a.0 g a.2 (omega (arith, a.1, l)) in

@@ -10,11 +10,15 @@ use Rattle.sf_core.specs.declared.assertion.Test.{Test}
 use Rattle.sf_core.specs.declared.assertion.Test.TheVariants.{True, Equal, Differ}
 use Rattle.sf_core.specs.Program.Formed.{TestWithin}
 use Rattle.sf_normal.specs.Knowledge.{split_row, unroll_one, unrolled_segment, unrolled_tree}
-use Rattle.sf_rules.specs.Rows.Whole.{row_of}
+use Rattle.sf_rules.specs.Checked.Rows.Whole.{row_of}
 use Rattle.sf_rules.specs.Setting.{Setting}
 use Rattle.sf_rules.specs.Shape.{HasLinks}
 use Rattle.sf_search.proofs.Found.{all-append, all-at, cell-of_atom, found-among, found-at, found-none}
-use Rattle.sf_search.specs.Strategy.{Choice, Kind, at_cell, at_test, found_or, lowest, opened, opened_by, opened_first, or_else, segment_at, split_by, split_found, split_or, stays, takes, takes_if, tree_at, undecided_ends, which}
+use Rattle.sf_search.specs.declared.choices.choice.Choice.{Choice}
+use Rattle.sf_search.specs.declared.choices.choice.Choice.TheVariants.{Stays as stays, Takes as takes}
+use Rattle.sf_search.specs.Strategy.{lowest, or_else, segment_at, tree_at, undecided_ends, which}
+use Rattle.sf_sym.specs.declared.stuck.Stuck.{Stuck}
+use Rattle.sf_search.specs.Checked.Chooses.{at_cell, at_test, found_or, opened, opened_by, opened_first, split_by, split_found, split_or, takes_if}
 use Rattle.sf_search.proofs.GoalShapes.{IsReady}
 use Rattle.sf_sym.specs.Below.{AllInAtom, AllInAtoms, IsBelow, is_below}
 use Rattle.sf_sym.specs.Cells.{atom_at, cell_at, fields_at}
@@ -167,7 +171,7 @@ module _ (d : Setting) (g : Goal) (shape : IsReady d g) where
       all-append (λ (a : Numbered). AllInAtom (IsBelow g.state.next_sym) a.atom) g.state.atoms g.state.taken
       shape.below.state.atoms shape.below.state.taken
 
-  pub good-split_or : (kind : Kind) → Good (row_of d g) (split_or g.state kind)
+  pub good-split_or : (kind : Stuck) → Good (row_of d g) (split_or g.state kind)
   good-split_or kind = go (lowest (undecided_ends g.state) (parts g.state)) refl
     where
       go : (o : Option (ℕ × (Term × Term))) → lowest (undecided_ends g.state) (parts g.state) ≡ o
@@ -232,7 +236,7 @@ module _ (d : Setting) (g : Goal) (shape : IsReady d g) where
       let w = found-at (λ x. fields_at x u) g.state.atoms shape.rising q.0 q.1 i in
       cell-of_atom g.state.atoms q.0 w.atom u w.at ∙ w.is
 
-  pub good-at_cell : NoneIsNothing g → (u : Term) (found : ℕ → Choice) (kind : Kind)
+  pub good-at_cell : NoneIsNothing g → (u : Term) (found : ℕ → Choice) (kind : Stuck)
       → ((a : ℕ) (fields : List (FieldId × Term)) → cell_at g.state.atoms a u ≡ Some fields
       → Good (row_of d g) (found a))
       → Good (row_of d g) (at_cell g.state u found kind)

@@ -15,12 +15,14 @@ use Rattle.sf_sym.specs.declared.term.Term.{Term}
 use Rattle.sf_sym.specs.declared.term.Term.TheVariants.{Nil}
 use Rattle.sf_sym.specs.Cells.{cell_at, fields_at, with_fields}
 use Rattle.sf_sym.specs.Goal.{Goal}
-use Rattle.sf_sym.specs.Known.{is_nothing}
+use Rattle.sf_sym.specs.Known.{forced_pair, is_nothing}
 use Rattle.sf_sym.specs.Checked.Lemmas.{points_at}
 use Rattle.sf_sym.specs.State.{State}
-use Rattle.sf_sym.specs.Tests.{allocated, allocates, has_cell, has_repeat, is_absurd, is_constant, is_impossible, is_left_out, parts, root, same_term}
+use Rattle.sf_sym.specs.Tests.{allocated, allocates, has_cell, has_repeat, is_absurd, is_constant, is_impossible, is_left_out, parts, root, roots, same_term}
 use Rattle.sf_search.specs.Checked.Settled.{IsSettled}
-use Rattle.sf_search.specs.Strategy.{at_items, chooses, forced_ends, lower, lowest, lowest_forced, or_else, takes, takes_if, which}
+use Rattle.sf_search.specs.declared.choices.choice.Choice.TheVariants.{Takes as takes}
+use Rattle.sf_search.specs.Strategy.{lower, lowest, lowest_forced, or_else, which}
+use Rattle.sf_search.specs.Checked.Chooses.{at_items, chooses, takes_if}
 
 -- an atom without its fields
 abbrev pub bare : Atom → Atom
@@ -35,6 +37,11 @@ pub bare_root : (a : Atom) → root (bare a) ≡ root a
 bare_root (Points u fields) = refl
 bare_root (Ls u v) = refl
 bare_root (Tree u) = refl
+
+bare_roots : (a : Atom) → roots (bare a) ≡ roots a
+bare_roots (Points u fields) = refl
+bare_roots (Ls u v) = refl
+bare_roots (Tree u) = refl
 
 bare_cell : (apart : List (Term × Term)) (a : Atom) → has_cell apart (bare a) ≡ has_cell apart a
 bare_cell apart (Points u fields) = refl
@@ -66,8 +73,9 @@ repeat-stripped : (apart : List (Term × Term)) (xs : List Numbered)
 repeat-stripped apart [] = refl
 repeat-stripped apart (x ∷ xs) = ap₂ (λ a b. a || b)
     (ap₂ (λ a b. a && b)
-    (ap (λ u. list_any (λ b. allocates apart u b.atom) (map stripped xs)) (bare_root x.atom)
-    ∙ any-stripped (λ b. allocates apart (root x.atom) b.atom) (λ b. bare_allocates apart (root x.atom) b.atom) xs)
+    (ap₂ (λ (p : Term → Bool) (ts : List Term). list_any p ts)
+    (λ i t. any-stripped (λ b. allocates apart t b.atom) (λ b. bare_allocates apart t b.atom) xs i)
+    (bare_roots x.atom))
     (bare_cell apart x.atom))
     (repeat-stripped apart xs)
 
@@ -84,7 +92,7 @@ forced-stripped s now same [] = refl
 forced-stripped s now same (x ∷ xs) =
     ap₂ (λ o p. lower (option_map (λ e. (x.number, e)) o) p) (go x.number x.atom) (forced-stripped s now same xs)
   where
-    go : (n : ℕ) (a : Atom) → forced_ends now n (bare a) ≡ forced_ends s n a
+    go : (n : ℕ) (a : Atom) → forced_pair now n (bare a) ≡ forced_pair s n a
     go n (Points u fields) = refl
     go n (Ls u v) = ap (λ b. cond (not (same_term u v) && (is_constant u || b)) (Some (u, v)) None) (same u (Some n))
     go n (Tree u) =

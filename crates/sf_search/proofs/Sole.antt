@@ -2,7 +2,7 @@
 -- Names: `each-LAW` of every part of a list, `sole-LAW` of a part that nothing else begins with.
 use Rattle.std.proofs.Common.{◌≡◌, ◌≢◌, ℕ, ◌<◌, ◌==◌, Bool, true, false, ◌&&◌, ◌||◌, not, cond, Option, Some, None, List, [], ◌∷◌, ◌++◌, refl, sym, ap, ap₂, ◌∙◌, subst, append_assoc, arith}
 use Rattle.std.specs.List.{AllByRecursion, list_any}
-use Rattle.std.specs.Option.{option_and_then, option_map}
+use Rattle.std.specs.Option.{option_map}
 use Rattle.std.proofs.lemmas.Bool.{or_parts}
 use Rattle.std.proofs.lemmas.Bool.Decides.{Decides-eqb}
 use Rattle.std.proofs.lemmas.List.Folds.{list_any-append}
@@ -10,9 +10,12 @@ use Rattle.std.proofs.lemmas.Option.{same_Some}
 use Rattle.sf_consume.specs.Subtract.{is_same_shape}
 use Rattle.sf_search.proofs.Fewer.{any-fewer, each-fewer, found, lower-none, map-none, or-still, repeat-last, repeat-moved, without-fewer}
 use Rattle.sf_search.proofs.Grown.{and-none, any-less, begins, same-self}
+use Rattle.sf_search.proofs.OneRoot.{one-allocates, one-any, one-repeat}
 use Rattle.sf_search.specs.Checked.Holding.{IsOpened, IsSoleCell}
 use Rattle.sf_search.specs.Checked.Settled.{IsSettled}
-use Rattle.sf_search.specs.Strategy.{forced_ends, lower, lowest, lowest_forced, opened_first, segment_at, takes, tree_at, which}
+use Rattle.sf_search.specs.declared.choices.choice.Choice.TheVariants.{Takes as takes}
+use Rattle.sf_search.specs.Strategy.{lower, lowest, lowest_forced, segment_at, tree_at, which}
+use Rattle.sf_search.specs.Checked.Chooses.{opened_first}
 use Rattle.sf_sym.specs.Cells.{atom_at, fields_at, without}
 use Rattle.sf_sym.specs.declared.atom.Atom.{Atom}
 use Rattle.sf_sym.specs.declared.atom.Atom.TheVariants.{Points, Ls, Tree}
@@ -20,11 +23,11 @@ use Rattle.sf_sym.specs.declared.atom.Numbered.{Numbered}
 use Rattle.sf_sym.specs.declared.tag.Tag.TheVariants as t
 use Rattle.sf_sym.specs.declared.term.Term.{Term}
 use Rattle.sf_sym.specs.declared.term.Term.TheVariants.{Nil}
-use Rattle.sf_sym.specs.Known.{ends, is_nothing}
+use Rattle.sf_sym.specs.Known.{forced_pair, ends, is_nothing}
 use Rattle.sf_sym.specs.Checked.Lemmas.{same_term_is}
 use Rattle.sf_sym.specs.Numbers.{AreNumbered, AreRising, numbers}
 use Rattle.sf_sym.specs.State.{State}
-use Rattle.sf_sym.specs.Tests.{allocated, allocates, are_both_allocated, differs, differs_at_once, has_cell, has_repeat, is_constant, is_impossible, is_left_out, parts, root, same_term}
+use Rattle.sf_sym.specs.Tests.{allocated, allocates, are_both_allocated, begins as begins_at, differs, differs_at_once, has_cell, has_repeat, is_constant, is_impossible, is_left_out, parts, root, same_term}
 
 -- Truth values
 first-not : (b c : Bool) → c ≡ true → b && c ≡ false → b ≡ false
@@ -41,7 +44,7 @@ which-none p x e = go (p x) refl e
     go false i j = i
 
 abbrev IsIdle : State → Numbered → Type 0
-IsIdle s y = (forced_ends s y.number y.atom ≡ None) × (is_nothing y.atom ≡ false)
+IsIdle s y = (forced_pair s y.number y.atom ≡ None) × (is_nothing y.atom ≡ false)
 
 -- nothing is empty or forced
 each-idle : (s : State) (xs : List Numbered) → lowest (which is_nothing) xs ≡ None → lowest_forced s xs ≡ None
@@ -49,9 +52,9 @@ each-idle : (s : State) (xs : List Numbered) → lowest (which is_nothing) xs �
 each-idle s [] e f = tt
 each-idle s (x ∷ xs) e f =
     let one = lower-none (option_map (λ y. (x.number, y)) (which is_nothing x.atom)) (lowest (which is_nothing) xs) e in
-    let two = lower-none (option_map (λ y. (x.number, y)) (forced_ends s x.number x.atom)) (lowest_forced s xs) f in (
+    let two = lower-none (option_map (λ y. (x.number, y)) (forced_pair s x.number x.atom)) (lowest_forced s xs) f in (
       (
-        map-none (λ y. (x.number, y)) (forced_ends s x.number x.atom) two.0,
+        map-none (λ y. (x.number, y)) (forced_pair s x.number x.atom) two.0,
         which-none is_nothing x.atom (map-none (λ y. (x.number, y)) (which is_nothing x.atom) one.0),
       ),
       each-idle s xs one.1 two.1,
@@ -149,7 +152,8 @@ module _ (s : State) (a : ℕ) (x : Atom) (known : IsSettled s) (rising : AreRis
         ∙ ap (has_repeat s.apart) (sym (append_assoc f.before (f.after ++ s.taken) (part ∷ [])))
         ∙ sym (repeat-last s.apart part (f.before ++ (f.after ++ s.taken))) in
         let none = or_parts (list_any p (f.before ++ (f.after ++ s.taken)) && has_cell s.apart x)
-        (has_repeat s.apart (f.before ++ (f.after ++ s.taken))) (sym moved ∙ no-repeat) in
+        (has_repeat s.apart (f.before ++ (f.after ++ s.taken)))
+        (sym (one-repeat s.apart part (f.before ++ (f.after ++ s.taken))) ∙ sym moved ∙ no-repeat) in
         let all = first-not (list_any p (f.before ++ (f.after ++ s.taken))) (has_cell s.apart x) cell none.0 in
         let split = or_parts (list_any p (f.before ++ f.after)) (list_any p s.taken)
         (sym (list_any-append p (f.before ++ f.after) s.taken) ∙ ap (list_any p) (append_assoc f.before f.after s.taken)
@@ -161,8 +165,8 @@ module _ (s : State) (a : ℕ) (x : Atom) (known : IsSettled s) (rising : AreRis
     is-allocated n other =
         let p : Numbered → Bool = λ b. not (is_left_out (Some n) b.number) && allocates s.apart (root x) b.atom in
         let here : p (record { number = a; atom = x }) ≡ true =
-        ap₂ (λ b c. not b && (same_term (root x) (root x) && c)) (different (a == n) refl) cell ∙ ap (λ b. b && true)
-        (same-self (root x)) in
+        ap₂ (λ b c. not b && (begins_at (root x) x && c)) (different (a == n) refl) cell ∙ ap (λ b. b && true)
+        (one-any (λ r. same_term r (root x)) x ∙ same-self (root x)) in
         list_any-append p s.atoms s.taken ∙ ap (λ b. b || list_any p s.taken) (any-there p s.atoms a x there here)
       where
         different : (b : Bool) → a == n ≡ b → a == n ≡ false
@@ -170,9 +174,11 @@ module _ (s : State) (a : ℕ) (x : Atom) (known : IsSettled s) (rising : AreRis
         different false i = i
 
     -- what begins there and has no cell would be empty or forced
-    not-there : (n : ℕ) (y : Atom) → n ≢ a → (forced_ends s n y ≡ None) × (is_nothing y ≡ false)
+    not-there : (n : ℕ) (y : Atom) → n ≢ a → (forced_pair s n y ≡ None) × (is_nothing y ≡ false)
         → allocates s.apart (root x) y ≡ false → same_term (root y) (root x) ≡ false
-    not-there n (Points u fields) other still none = first-not (same_term u (root x)) true refl none
+    not-there n (Points u fields) other still none =
+        first-not (same_term u (root x)) true refl
+        (sym (one-allocates s.apart (root x) (Points u fields)) ∙ none)
     not-there n (Ls u v) other still none = go (same_term u (root x)) refl
       where
         go : (b : Bool) → same_term u (root x) ≡ b → same_term u (root x) ≡ false
@@ -248,6 +254,18 @@ ends-are apart (Tree u) e i =
       ap (λ z. same_term z.0 z.1) same,
     )
 
+-- it is forced by them
+ends-forced : (s : State) (a : ℕ) (x : Atom) (e : Term × Term) → ends x ≡ Some e
+    → forced_pair s a x
+    ≡ cond (not (same_term e.0 e.1) && (is_constant e.0 || allocated s e.0 (Some a))) (Some e) None
+ends-forced s a (Points u fields) e i = absurd (cc)
+ends-forced s a (Ls u v) e i =
+    ap (λ (z : Term × Term). cond (not (same_term z.0 z.1) && (is_constant z.0 || allocated s z.0 (Some a))) (Some z)
+    None) (same_Some (u, v) e i)
+ends-forced s a (Tree u) e i =
+    ap (λ (z : Term × Term). cond (not (same_term z.0 z.1) && (is_constant z.0 || allocated s z.0 (Some a))) (Some z)
+    None) (same_Some (u, Nil) e i)
+
 -- what was handed over has other numbers
 from-numbers : (Q : ℕ → Type 0) (ts : List Numbered) → AllByRecursion Q (numbers ts)
     → AllByRecursion (λ (y : Numbered). Q y.number) ts
@@ -278,8 +296,7 @@ module _ (s : State) (a : ℕ) (x : Atom) (known : IsSettled s) (numbered : Numb
   unforced =
       let here = each-at (IsIdle s) s.atoms a x there (idle s a x known numbered.rising there) in
       let some = sym (ends-are s.apart x e is).2 ∙ here.1 in
-      let none = sym (ap (λ o. option_and_then (λ e. cond (not (same_term e.0 e.1)
-      && (is_constant e.0 || allocated s e.0 (Some a))) (Some e) None) o) is) ∙ here.0 in
+      let none = sym (ends-forced s a x e is) ∙ here.0 in
       go (same_term e.0 e.1) (is_constant e.0) (allocated s e.0 (Some a)) some none
     where
       go : (b c d : Bool) → b ≡ false → cond (not b && (c || d)) (Some e) None ≡ None → (c ≡ false) × (d ≡ false)
@@ -301,7 +318,7 @@ module _ (s : State) (a : ℕ) (x : Atom) (known : IsSettled s) (numbered : Numb
       let others = sym (any-others p a (without s.atoms a) (other-numbers a s.atoms numbered.rising))
       ∙ any-fewer q (without s.atoms a) s.atoms (without-fewer s.atoms a) both.0 in
       let here : p (record { number = a; atom = x }) ≡ false =
-      ap (λ b. same_term (root x) e.0 && b) none ∙ and-none (same_term (root x) e.0) in
+      ap (λ b. begins_at e.0 x && b) none ∙ and-none (begins_at e.0 x) in
       list_any-append p s.atoms s.taken
       ∙ or-still (list_any p s.atoms) (list_any p s.taken) (any-without p s.atoms a x there here others)
       (sym (any-others p a s.taken (taken-others s.atoms s.taken a x there numbered.apart)) ∙ both.1)

@@ -20,21 +20,26 @@ use Rattle.sf_core.specs.declared.command.Expr.{Expr}
 use Rattle.sf_core.specs.Program.Formed.{TestWithin}
 use Rattle.sf_core.specs.Program.Syntax.{Command, assign, look_up, mutate, new, dispose, if, while, call, fork, with, Conjunct, holds, points, segment, tree, choose, Conjuncts, none, also}
 use Rattle.sf_rules.specs.declared.few.TheConstants.{TOO_MANY}
-use Rattle.sf_rules.specs.Few.{if_few}
+use Rattle.sf_rules.specs.Checked.Few.{if_few}
 use Rattle.sf_produce.specs.Add.{operands}
-use Rattle.sf_rules.specs.Rows.Calls.{called, forked}
-use Rattle.sf_rules.specs.Rows.Commands.{looked}
-use Rattle.sf_rules.specs.Rows.Loops.{unknown_in}
-use Rattle.sf_rules.specs.Rows.Regions.{entered, variables_from}
-use Rattle.sf_rules.specs.Rows.Take.{subtract_row}
+use Rattle.sf_rules.specs.Checked.Rows.Calls.{called, forked}
+use Rattle.sf_rules.specs.Checked.Rows.Commands.{looked}
+use Rattle.sf_rules.specs.Rules.{unknown_in}
+use Rattle.sf_rules.specs.Checked.Rows.Regions.{entered}
+use Rattle.sf_rules.specs.Resources.{variables_from}
+use Rattle.sf_rules.specs.Checked.Rows.Take.{subtract_row}
 use Rattle.sf_rules.specs.Checked.Lemmas.RowRules.{row-leaves}
-use Rattle.sf_rules.specs.Rows.Whole.{row, row_of}
+use Rattle.sf_rules.specs.Checked.Rows.Whole.{row, row_of}
 use Rattle.sf_rules.specs.Setting.{Setting}
 use Rattle.sf_search.proofs.Found.{found-at, found-forced}
 use Rattle.sf_rules.specs.Checked.Lemmas.FreshVariables.{few-filtered, fresh-length, term-below, variables-length}
 use Rattle.sf_search.proofs.Rows.{Good, GoodIf, NoneIsNothing, cell-found, good-at_cell, good-at_test, good-if, good-map, good-or, good-split, good-split_or, segment-is}
-use Rattle.sf_search.specs.Strategy.{at_choice, at_command, at_end, at_equality, at_first_wanted, at_given, at_inequality, at_items, at_known, at_list, at_points, at_tree, at_wanted, begins_with, chooses, end_not_allocated, exact_atom, forced_ends, has_step, joins, leak, lowest, lowest_forced, no_atom, not_different, not_equal, segment_at, split_or, takes, takes_if, which}
+use Rattle.sf_search.specs.declared.choices.choice.Choice.TheVariants.{Takes as takes}
+use Rattle.sf_search.specs.Strategy.{lowest, lowest_forced, segment_at, which}
+use Rattle.sf_sym.specs.declared.stuck.Stuck.TheVariants.{EndNotAllocated as end_not_allocated, Leak as leak, NoAtom as no_atom, NotDifferent as not_different, NotEqual as not_equal}
+use Rattle.sf_search.specs.Checked.Chooses.{at_choice, at_command, at_end, at_equality, at_first_wanted, at_given, at_inequality, at_items, at_known, at_list, at_points, at_tree, at_wanted, begins_with, chooses, exact_atom, has_step, joins, split_or, takes_if}
 use Rattle.sf_search.specs.Checked.Laws.{TakenTagsHaveRows}
+use Rattle.sf_search.proofs.Told.{told}
 use Rattle.sf_search.proofs.GoalShapes.{IsReady, ready-of}
 use Rattle.sf_sym.specs.Below.{AllInPending, AllPaired, IsBelow}
 use Rattle.sf_sym.specs.Cells.{cell_at, fields_at, handed}
@@ -42,8 +47,7 @@ use Rattle.sf_sym.specs.Decided.{command_test, is_false, is_true, term_of, test_
 use Rattle.sf_sym.specs.declared.atom.Atom.{Atom}
 use Rattle.sf_sym.specs.declared.atom.Atom.TheVariants.{Ls, Tree}
 use Rattle.sf_sym.specs.declared.atom.Numbered.{Numbered}
-use Rattle.sf_sym.specs.Equalities.{assumed_equal}
-use Rattle.sf_sym.specs.Known.{ends, is_forced, is_nothing}
+use Rattle.sf_sym.specs.Known.{is_nothing}
 use Rattle.sf_sym.specs.declared.tag.Tag.{Tag}
 use Rattle.sf_sym.specs.declared.tag.Tag.TheVariants as t
 use Rattle.sf_sym.specs.declared.term.Term.{Term}
@@ -523,19 +527,6 @@ map-none : {X Y : Type 0} (f : X → Y) (o : Option X) → option_map f o ≡ No
 map-none f None e = refl
 map-none f (Some x) e = absurd (cc)
 
-forced-row : (g : Goal) (a : ℕ) (x : Atom) (e : Term × Term) → forced_ends g.state a x ≡ Some e
-    → is_some (option_and_then (λ q. cond (is_forced g.state a q) (Some (assumed_equal q.0 q.1 g ∷ [])) None)
-    (ends x)) ≡ true
-forced-row g a x e i = go (ends x) i
-  where
-    go : (o : Option (Term × Term))
-        → option_and_then (λ q. cond (is_forced g.state a q) (Some q) None) o ≡ Some e
-        → is_some (option_and_then (λ q. cond (is_forced g.state a q) (Some (assumed_equal q.0 q.1 g ∷ [])) None) o)
-        ≡ true
-    go None j = absurd (cc)
-    go (Some q) j =
-        cond-some (is_forced g.state a q) (assumed_equal q.0 q.1 g ∷ []) (if-so (is_forced g.state a q) q e j)
-
 pub good-chooses : (d : Setting) (g : Goal) → IsReady d g → Good (row_of d g) (chooses g)
 good-chooses d g shape =
     good-or (row_of d g) (takes_if (is_absurd g.state) t.Absurd) _
@@ -549,7 +540,7 @@ good-chooses d g shape =
     (option_map (λ f. takes (t.Force f.0)) (lowest_forced g.state g.state.atoms)) (at_items g.state g.todo)
     (good-map (row_of d g) (λ f. t.Force f.0) (lowest_forced g.state g.state.atoms)
     (λ f e. let x = found-forced g.state g.state.atoms shape.rising f.0 f.1 e in
-    rw x.1 (forced-row g f.0 x.0 f.1 x.2)))
+    rw (x.1, x.2) refl))
     (λ free. good-items d g.state g.todo shape
     (map-none (λ f. takes (t.Drop f.0)) (lowest (which is_nothing) g.state.atoms) full))))
 
@@ -562,5 +553,5 @@ unfolding TakenTagsHaveRows
 taken_tags_have_rows d goal tag shape numbers e =
     let there = some-there (row d goal tag)
     (ap (λ b. is_some (cond b (row_of d goal tag) None)) numbers
-    ∙ subst (Good (row_of d goal)) e (good-chooses d goal (ready-of d goal shape numbers))) in
+    ∙ subst (Good (row_of d goal)) (told goal ∙ e) (good-chooses d goal (ready-of d goal shape numbers))) in
     (there.0, row-leaves d goal tag there.0 there.1)

@@ -1,47 +1,28 @@
--- What the code's choices and failures say: what the strategy does at a goal, how a search ended that found no proof, and
--- which procedure fails and why.
+-- What the code's failures say: how a search ended that found no proof, and which procedure fails
+-- and why.
 -- Ordinary: one case a case.
 use Rattle.std.specs.Prelude.{◌≡◌, ◌-◌, ℕ, List, Option, Some, None, cond, length, nat_lt}
 use Rattle.sf_base.specs.declared.ids.ProcId.{ProcId}
 use Rattle.sf_base.specs.declared.limits.TheConstants.{FILE_TAGS}
 use Rattle.sf_rules.specs.Setting.{Setting}
-use Rattle.sf_search.specs.declared.choices.choice.Choice.{Choice as CodeChoice}
-use Rattle.sf_search.specs.declared.choices.choice.Choice.TheVariants.{Takes, Stays}
-use Rattle.sf_search.specs.declared.choices.choice.Kind.{Kind as CodeKind}
-use Rattle.sf_search.specs.declared.choices.choice.Kind.TheVariants.{NoCell, NotEqual, NotDifferent, NoAtom, Leak, EndNotAllocated}
 use Rattle.sf_search.specs.declared.verdicts.SearchFault.{SearchFault}
 use Rattle.sf_search.specs.declared.verdicts.SearchFault.TheVariants.{Stuck, TooLarge, OutOfMemory}
 use Rattle.sf_search.specs.declared.verdicts.VerifyFault.{VerifyFault}
 use Rattle.sf_search.specs.declared.verdicts.VerifyFault.TheVariants.{Failed, OutOfMemory as NoMemory}
 use Rattle.sf_search.specs.Judge.{Cause, Judge, Search, fails, large, stuck, stuck_at, too_large}
-use Rattle.sf_search.specs.Strategy.{Choice, takes, stays, Kind, no_cell, not_equal, not_different, no_atom, leak, end_not_allocated}
 use Rattle.sf_sym.specs.declared.tag.Tag.{Tag}
 use Rattle.sf_sym.specs.Goal.{Goal, goal_of}
-
--- why a goal is stuck, as the code says it
-abbrev pub kind_of : CodeKind → Kind
-kind_of NoCell = no_cell
-kind_of NotEqual = not_equal
-kind_of NotDifferent = not_different
-kind_of NoAtom = no_atom
-kind_of Leak = leak
-kind_of EndNotAllocated = end_not_allocated
-
--- what the strategy does at a goal, as the code says it
-abbrev pub choice_of : CodeChoice → Choice
-choice_of (Takes tag) = takes tag
-choice_of (Stays kind) = stays (kind_of kind)
 
 -- the search from that goal ends so
 abbrev pub EndsAs : Setting → Goal → SearchFault → Type 0
 EndsAs d first (Stuck goal kind before) =
-    (tags : List Tag) × (length tags ≡ before) × Search d first tags (stuck (goal_of goal) (kind_of kind))
+    (tags : List Tag) × (length tags ≡ before) × Search d first tags (stuck (goal_of goal) kind)
 EndsAs d first TooLarge = (tags : List Tag) × Search d first tags large
 EndsAs d first OutOfMemory = Unit {0}
 
 -- why a procedure fails
 abbrev pub cause_of : SearchFault → Option Cause
-cause_of (Stuck goal kind before) = Some (stuck_at (goal_of goal) (kind_of kind) before)
+cause_of (Stuck goal kind before) = Some (stuck_at (goal_of goal) kind before)
 cause_of TooLarge = Some too_large
 cause_of OutOfMemory = None
 

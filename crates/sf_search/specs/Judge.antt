@@ -7,7 +7,9 @@ use Rattle.sf_base.specs.declared.limits.TheConstants.{PROCEDURE_TAGS, FILE_TAGS
 use Rattle.sf_core.specs.Program.Syntax.{Procedure}
 use Rattle.sf_rules.specs.Rules.{Leaves}
 use Rattle.sf_rules.specs.Setting.{Setting}
-use Rattle.sf_search.specs.Strategy.{Kind, chooses, stays, takes}
+use Rattle.sf_search.specs.declared.choices.choice.Choice.TheVariants.{Stays as stays, Takes as takes}
+use Rattle.sf_sym.specs.declared.stuck.Stuck.{Stuck}
+use Rattle.sf_search.specs.Strategy.{strategy}
 use Rattle.sf_rules.specs.First.{first_goal}
 use Rattle.sf_sym.specs.declared.tag.Tag.{Tag}
 use Rattle.sf_sym.specs.declared.tag.Tag.TheVariants as t
@@ -17,17 +19,17 @@ use Rattle.sf_sym.specs.Goal.{Goal}
 -- procedure may have
 pub data Outcome : Type 0 where
   proved : Outcome
-  stuck : Goal → Kind → Outcome
+  stuck : Goal → Stuck → Outcome
   large : Outcome
 
 -- the tags are those that the strategy takes from these goals on, the first goal first, up to that
 -- end
 abbrev pub Chosen : Setting → List Goal → List Tag → Outcome → Type 0
 Chosen d [] [] proved = Unit {0}
-Chosen d (g ∷ gs) [] (stuck h kind) = (h ≡ g) × (chooses g ≡ stays kind)
-Chosen d (g ∷ gs) [] large = (tag : Tag) × (chooses g ≡ takes tag)
+Chosen d (g ∷ gs) [] (stuck h kind) = (h ≡ g) × (strategy g ≡ stays kind)
+Chosen d (g ∷ gs) [] large = (tag : Tag) × (strategy g ≡ takes tag)
 Chosen d (g ∷ gs) (tag ∷ tags) outcome =
-    (chooses g ≡ takes tag) × (left : List Goal) × Leaves d g tag left
+    (strategy g ≡ takes tag) × (left : List Goal) × Leaves d g tag left
     × Chosen d (left ++ gs) tags outcome
 Chosen d _ _ _ = ⊥
 
@@ -45,7 +47,7 @@ pub record Search (d : Setting) (goal : Goal) (tags : List Tag) (outcome : Outco
 -- why a procedure isn't proved: its search is stuck at a goal, after so many tags; or it is too
 -- large, or the file is
 pub data Cause : Type 0 where
-  stuck_at : Goal → Kind → (before : ℕ) → Cause
+  stuck_at : Goal → Stuck → (before : ℕ) → Cause
   too_large : Cause
 
 -- what is said of a program: a proof of it, or the first procedure that fails, and why

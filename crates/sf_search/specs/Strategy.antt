@@ -1,8 +1,11 @@
--- The strategy, which chooses the tag at each goal, or says why the goal is stuck.
--- Berdine, Calcagno, O'Hearn, "Smallfoot" (2005): proof search by symbolic execution, in this project's own profile.
-use Rattle.std.specs.Prelude.{ℕ, Bool, ◌&&◌, ◌||◌, not, cond, is_some, nat_lt, Option, Some, None, List, [], ◌∷◌}
+-- The strategy: what is tried in which order for what is to be done, and why a goal is stuck where
+-- nothing of it applies.
+-- Berdine, Calcagno, O'Hearn, "Smallfoot" (2005): proof search by symbolic execution, in this
+-- project's own profile.
+use Rattle.std.specs.Prelude.{ℕ, Bool, true, false, ◌&&◌, ◌||◌, not, cond, is_some, nat_lt, Option, Some, None, List, [], ◌∷◌}
 use Rattle.std.specs.Option.{option_map, option_and_then}
-use Rattle.sf_consume.specs.Subtract.{bind_step, both, cell_step, empty_step, is_same_shape, same_step, wanted_shape, Step}
+use Rattle.sf_base.specs.declared.ids.FieldId.{FieldId}
+use Rattle.sf_consume.specs.Subtract.{both, fitting, is_same_shape}
 use Rattle.sf_core.specs.declared.assertion.Operand.{Operand}
 use Rattle.sf_core.specs.declared.assertion.Test.{Test}
 use Rattle.sf_core.specs.declared.assertion.Test.TheVariants.{True, Equal, Differ}
@@ -10,6 +13,10 @@ use Rattle.sf_core.specs.Program.Syntax.{Conjunct, holds, points, segment, tree,
 use Rattle.sf_sym.specs.declared.atom.Atom.{Atom}
 use Rattle.sf_sym.specs.declared.atom.Atom.TheVariants.{Points, Ls, Tree}
 use Rattle.sf_sym.specs.declared.atom.Numbered.{Numbered}
+use Rattle.sf_search.specs.declared.choices.choice.Choice.{Choice}
+use Rattle.sf_search.specs.declared.choices.choice.Choice.TheVariants.{Takes as takes, Stays as stays}
+use Rattle.sf_sym.specs.declared.stuck.Stuck.{Stuck}
+use Rattle.sf_sym.specs.declared.stuck.Stuck.TheVariants.{NoCell as no_cell, NotEqual as not_equal, NotDifferent as not_different, NoAtom as no_atom, Leak as leak, EndNotAllocated as end_not_allocated}
 use Rattle.sf_sym.specs.declared.tag.Tag.{Tag}
 use Rattle.sf_sym.specs.declared.tag.Tag.TheVariants as t
 use Rattle.sf_sym.specs.declared.term.Term.{Term}
@@ -17,30 +24,9 @@ use Rattle.sf_sym.specs.declared.term.Term.TheVariants.{Nil}
 use Rattle.sf_sym.specs.Cells.{fields_at}
 use Rattle.sf_sym.specs.Decided.{command_test, is_false, is_true, term_of, test_of_terms}
 use Rattle.sf_sym.specs.Goal.{Item, run, add, take, gave, head, again, exit, return, end, Goal}
-use Rattle.sf_sym.specs.Pending.{Pending}
 use Rattle.sf_sym.specs.State.{State, term}
 use Rattle.sf_sym.specs.Tests.{allocated, differs, is_absurd, is_constant, parts, same_term}
-use Rattle.sf_sym.specs.Known.{ends, is_nothing}
-
--- why a goal is stuck
-pub data Kind : Type 0 where
-  -- the command's cell isn't known to be there
-  no_cell : Kind
-  -- two terms aren't known to be the same
-  not_equal : Kind
-  -- two terms aren't known to differ
-  not_different : Kind
-  -- a wanted part of the heap isn't known to be there
-  no_atom : Kind
-  -- parts of the heap are left at the end
-  leak : Kind
-  -- the end of a wanted segment isn't known to be outside the segment that begins it
-  end_not_allocated : Kind
-
--- what the strategy does at a goal: it takes a tag, or it is stuck there
-pub data Choice : Type 0 where
-  takes : Tag → Choice
-  stays : Kind → Choice
+use Rattle.sf_sym.specs.Known.{ends, forced_pair, is_nothing}
 
 -- Atoms
 -- what has the lower number, of two things that are there or not
@@ -70,208 +56,199 @@ tree_at u (Points v fields) = None
 tree_at u (Ls v w) = None
 tree_at u (Tree v) = cond (same_term v u) (Some (Tree v)) None
 
--- a segment or tree whose root can't be a cell of its own
-abbrev pub forced_ends : State → (a : ℕ) → Atom → Option (Term × Term)
-forced_ends s a x =
-    option_and_then (λ e. cond (not (same_term e.0 e.1) && (is_constant e.0 || allocated s e.0 (Some a))) (Some e)
-    None) (ends x)
-
--- the lowest atom that is to be empty
+-- the lowest atom that is to be empty, and two terms that are the same then
 abbrev pub lowest_forced : State → List Numbered → Option (ℕ × (Term × Term))
 lowest_forced s [] = None
 lowest_forced s (a ∷ rest) =
-    lower (option_map (λ e. (a.number, e)) (forced_ends s a.number a.atom)) (lowest_forced s rest)
+    lower (option_map (λ e. (a.number, e)) (forced_pair s a.number a.atom)) (lowest_forced s rest)
 
 -- the ends of a segment or tree of which it isn't known whether it is empty
 abbrev pub undecided_ends : State → Atom → Option (Term × Term)
 undecided_ends s x =
     option_and_then (λ e. cond (same_term e.0 e.1 || differs s e.0 e.1) None (Some e)) (ends x)
 
--- Where a goal would be stuck
--- these ends are split, and without any the goal is stuck
-abbrev pub split_found : Kind → Option (ℕ × (Term × Term)) → Choice
-split_found kind None = stays kind
-split_found kind (Some (a, e)) = takes (t.Split e.0 e.1)
+-- WHAT IS TRIED: a tag, where it applies
+-- a tag where something is so
+abbrev pub when : Bool → Tag → Option Tag
+when so tag = cond so (Some tag) None
 
--- the ends of the lowest atom or taken atom that is undecided are split, and without one the goal is stuck
-abbrev pub split_or : State → Kind → Choice
-split_or s kind = split_found kind (lowest (undecided_ends s) (parts s))
+-- a tag for the lowest atom of which something is so
+abbrev pub lowest_by : {X : Type 0} → (ℕ → Tag) → (Atom → Option X) → State → Option Tag
+lowest_by tag f s = option_map (λ a. tag a.0) (lowest f s.atoms)
+
+-- for the lowest cell at that term
+abbrev pub cell_by : (ℕ → Tag) → Term → State → Option Tag
+cell_by tag t s = lowest_by tag (λ x. fields_at x t) s
+
+-- a segment or tree between these terms is unrolled where it surely isn't empty, and else its ends
+-- are split
+abbrev pub opening : State → (u v : Term) → (a : ℕ) → Tag
+opening s u v a = cond (differs s u v) (t.Unroll a) (t.Split u v)
+
+-- the lowest segment that begins at the term is opened
+abbrev pub open_segment : Term → State → Option Tag
+open_segment u s = option_map (λ a. opening s u a.1 a.0) (lowest (segment_at u) s.atoms)
+
+-- the lowest tree there is opened
+abbrev pub open_tree : Term → State → Option Tag
+open_tree u s = option_map (λ a. opening s u Nil a.0) (lowest (tree_at u) s.atoms)
+
+-- the ends of the lowest atom or taken atom are split of which it isn't known whether it is empty
+abbrev pub split_any : State → Option Tag
+split_any s = option_map (λ a. t.Split a.1.0 a.1.1) (lowest (undecided_ends s) (parts s))
+
+-- the two terms of a test are split
+abbrev pub split_test : Test Term → Option Tag
+split_test True = None
+split_test (Equal u v) = Some (t.Split u v)
+split_test (Differ u v) = Some (t.Split u v)
+
+-- the lowest segment from the first term on begins what is wanted, where the second term can't be
+-- inside it
+abbrev pub join : Term × Term → State → Option Tag
+join e s =
+    option_and_then (λ a. when (is_constant e.1 || allocated s e.1 (Some a.0)) (t.Join a.0))
+    (lowest (segment_at e.0) s.atoms)
+
+-- what is tried of something that is there, such as the term of an operand; nothing is tried of
+-- what isn't
+abbrev pub each : {X : Type 0} → Option X → (X → List (Option Tag)) → List (Option Tag)
+each None f = []
+each (Some x) f = f x
 
 -- the first of two choices that is there
 abbrev pub or_else : Option Choice → Choice → Choice
 or_else None c = c
 or_else (Some c) d = c
 
--- a part of the heap that may begin with a cell at the term is opened: the lowest segment there, or else the lowest
--- tree; it is unrolled where it surely isn't empty, and else its ends are split
-abbrev pub opened_by : State → (root end_ : Term) → (a : ℕ) → Choice
-opened_by s u v a = cond (differs s u v) (takes (t.Unroll a)) (takes (t.Split u v))
+-- the first of these that applies, and else that
+abbrev pub first_in : List (Option Tag) → Choice → Choice
+first_in [] c = c
+first_in (tag ∷ others) c = or_else (option_map (λ x. takes x) tag) (first_in others c)
 
-abbrev pub opened_first : State → Term → Option (ℕ × Term) → Option (ℕ × Atom) → Option Choice
-opened_first s u (Some (a, w)) others = Some (opened_by s u w a)
-opened_first s u None (Some (a, x)) = Some (opened_by s u Nil a)
-opened_first s u None None = None
+-- the first of these that applies, then a split of undecided ends; without them the goal is stuck
+abbrev pub tried : List (Option Tag) → State → Stuck → Choice
+tried tags s kind = first_in tags (first_in (split_any s ∷ []) (stays kind))
 
-abbrev pub opened : State → Term → Option Choice
-opened s u = opened_first s u (lowest (segment_at u) s.atoms) (lowest (tree_at u) s.atoms)
+-- THE TABLE, in the order of the page
+-- what is known, whatever is to do
+abbrev pub known : State → List (Option Tag)
+known s =
+    when (is_absurd s) t.Absurd
+    ∷ lowest_by t.Drop (which is_nothing) s
+    ∷ option_map (λ a. t.Force a.0) (lowest_forced s s.atoms)
+    ∷ []
 
--- that atom, or else this
-abbrev pub found_or : {X : Type 0} → (found : ℕ → Choice) → Choice → Option (ℕ × X) → Choice
-found_or found c (Some (a, x)) = found a
-found_or found c None = c
+-- a command on the cell at that term
+abbrev pub on_cell : (ℕ → Tag) → Term → State → Choice
+on_cell tag u s = tried (cell_by tag u s ∷ open_segment u s ∷ open_tree u s ∷ []) s no_cell
 
--- a cell at that term is wanted: the lowest one, or a part of the heap is opened
-abbrev pub at_cell : State → Term → (found : ℕ → Choice) → Kind → Choice
-at_cell s u found kind =
-    found_or found (or_else (opened s u) (split_or s kind)) (lowest (λ x. fields_at x u) s.atoms)
+-- a choice, by its test
+abbrev pub by_test : Option (Test Term) → State → Choice
+by_test test s =
+    tried
+    (each test (λ x.
+    when (is_true s x) t.Then
+    ∷ when (is_false s x) t.Else
+    ∷ split_test x
+    ∷ []))
+    s not_equal
 
--- a tag where its row is there
-abbrev pub takes_if : Bool → Tag → Option Choice
-takes_if b tag = cond b (Some (takes tag)) None
+-- a command
+abbrev pub for_command : Command → State → Choice
+for_command (assign p x e) s = takes t.Assign
+for_command (look_up p x e f) s = on_cell t.Look (term s.vars e) s
+for_command (mutate p e f v) s = on_cell t.Mutate (term s.vars e) s
+for_command (new p x) s = takes t.New
+for_command (dispose p e) s = on_cell t.Dispose (term s.vars e) s
+for_command (if p test c d) s = by_test (Some (command_test (term s.vars) test)) s
+for_command (while p test a c) s = takes t.Loop
+for_command (call p c) s = takes t.Call
+for_command (fork p c d) s = takes t.Fork
+for_command (with p r test c) s = takes t.Enter
 
--- Choices
--- the two terms of a test are split
-abbrev pub split_by : Test Term → Choice
-split_by True = takes t.Then
-split_by (Equal u v) = takes (t.Split u v)
-split_by (Differ u v) = takes (t.Split u v)
+-- what is assumed, by its first conjunct
+abbrev pub for_given : Conjuncts Term → List (Option Term) → State → Choice
+for_given (also (choose p test this that) cs) terms s = by_test (test_of_terms terms test) s
+for_given _ terms s = takes t.Add
 
--- by a test: where it isn't decided it is split
-abbrev pub at_test : State → Test Term → Choice
-at_test s test =
-    cond (is_true s test) (takes t.Then) (cond (is_false s test) (takes t.Else) (split_by test))
+-- one operand alone has a term
+abbrev pub one_has_term : Option Term → Option Term → Bool
+one_has_term (Some u) None = true
+one_has_term None (Some u) = true
+one_has_term _ _ = false
 
--- by a test, if its operands have terms
-abbrev pub at_known : State → Option (Test Term) → Choice
-at_known s None = split_or s not_equal
-at_known s (Some x) = at_test s x
+-- a wanted cell, by the lowest cell at its root
+abbrev pub for_cell : Operand Term × List (FieldId × Operand Term) → List (Option Term)
+    → Option (ℕ × List (FieldId × Term)) → State → Choice
+for_cell w terms (Some a) s =
+    tried (when (is_some (fitting a.0 s terms w)) (t.Cell a.0) ∷ []) s not_equal
+for_cell w terms None s =
+    tried (each (term_of terms w.0) (λ u. open_segment u s ∷ open_tree u s ∷ [])) s no_atom
 
--- a choice among conjuncts
-abbrev pub at_choice : State → List (Option Term) → Test (Operand Term) → Choice
-at_choice s bindings test = at_known s (test_of_terms bindings test)
+-- why a wanted list between these terms isn't there: a segment begins it, or none does
+abbrev pub without_list : Option (Term × Term) → State → Stuck
+without_list e s =
+    cond (is_some (option_and_then (λ e. lowest (segment_at e.0) s.atoms) e)) end_not_allocated
+    no_atom
 
--- Commands
-abbrev pub at_command : State → Command → Choice
-at_command s (assign p x e) = takes t.Assign
-at_command s (look_up p x e f) = at_cell s (term s.vars e) (λ a. takes (t.Look a)) no_cell
-at_command s (mutate p e f v) = at_cell s (term s.vars e) (λ a. takes (t.Mutate a)) no_cell
-at_command s (new p x) = takes t.New
-at_command s (dispose p e) = at_cell s (term s.vars e) (λ a. takes (t.Dispose a)) no_cell
-at_command s (if p test c d) = at_test s (command_test (term s.vars) test)
-at_command s (while p test a c) = takes t.Loop
-at_command s (call p c) = takes t.Call
-at_command s (fork p c d) = takes t.Fork
-at_command s (with p r test c) = takes t.Enter
+-- one wanted conjunct; nothing is tried of what is always true, which no assertion says
+abbrev pub for_wanted : Conjunct Term → List (Option Term) → State → Choice
+for_wanted (holds p True) terms s = tried [] s not_equal
+for_wanted (holds p (Equal x y)) terms s =
+    tried
+    (when (one_has_term (term_of terms x) (term_of terms y)) t.Bind
+    ∷ each (both terms x y) (λ e. when (same_term e.0 e.1) t.Same ∷ []))
+    s not_equal
+for_wanted (holds p (Differ x y)) terms s =
+    tried (each (both terms x y) (λ e. when (differs s e.0 e.1) t.Apart ∷ [])) s not_different
+for_wanted (points p x fs) terms s =
+    for_cell (x, fs) terms
+    (option_and_then (λ u. lowest (λ a. fields_at a u) s.atoms) (term_of terms x)) s
+for_wanted (segment p next x y) terms s =
+    tried
+    (each (both terms x y) (λ e.
+    when (same_term e.0 e.1) t.Empty
+    ∷ lowest_by t.Exact (which (λ a. is_same_shape a (Ls e.0 e.1))) s
+    ∷ when (not (differs s e.0 e.1)) (t.Split e.0 e.1)
+    ∷ cell_by t.Head e.0 s
+    ∷ join e s
+    ∷ []))
+    s (without_list (both terms x y) s)
+for_wanted (tree p left right x) terms s =
+    tried
+    (each (term_of terms x) (λ u.
+    when (same_term u Nil) t.Empty
+    ∷ lowest_by t.Exact (which (λ a. is_same_shape a (Tree u))) s
+    ∷ cell_by t.Node u s
+    ∷ when (not (differs s u Nil)) (t.Split u Nil)
+    ∷ []))
+    s no_atom
+for_wanted (choose p test this that) terms s = by_test (test_of_terms terms test) s
 
--- What is assumed
-abbrev pub at_given : State → List (Option Term) → Conjuncts Term → Choice
-at_given s bindings (also (choose p test this that) cs) = at_choice s bindings test
-at_given s bindings _ = takes t.Add
+-- what is wanted, by its first conjunct; nothing is tried without one, as no goal of a program is
+abbrev pub for_first : Conjuncts Term → List (Option Term) → State → Choice
+for_first (also c cs) terms s = for_wanted c terms s
+for_first none terms s = tried [] s no_atom
 
--- What is to be shown
--- whether a step has a row at a conjunct
-abbrev pub has_step : Step → State → List (Option Term) → Conjunct Term → Bool
-has_step step s bindings c = is_some (step s bindings c none)
+-- the end, where no atom may be left
+abbrev pub for_end : List Numbered → State → Choice
+for_end [] s = takes t.End
+for_end (a ∷ others) s = tried [] s leak
 
--- an equality: an existential gets a term, or the terms are one
-abbrev pub at_equality : State → List (Option Term) → Conjunct Term → Choice
-at_equality s bindings c =
-    or_else (takes_if (has_step bind_step s bindings c) t.Bind)
-    (or_else (takes_if (has_step same_step s bindings c) t.Same) (split_or s not_equal))
+-- what is to do, of which a goal of a program has something
+abbrev pub for_todo : List Item → State → Choice
+for_todo (run c ∷ rest) s = for_command c s
+for_todo (add p given ∷ rest) s = for_given given.conjuncts given.bindings s
+for_todo (take p want names ∷ rest) s = for_first want.conjuncts want.bindings s
+for_todo (gave p set removed ∷ rest) s = takes t.Give
+for_todo (head p test invariant body ∷ rest) s = takes t.Around
+for_todo (again p invariant ∷ rest) s = takes t.Again
+for_todo (exit p r ∷ rest) s = takes t.Exit
+for_todo (return p post ∷ rest) s = takes t.Return
+for_todo (end p ∷ rest) s = for_end s.atoms s
+for_todo [] s = takes t.End
 
--- an inequality: the terms surely differ
-abbrev pub at_inequality : State → List (Option Term) → (x y : Operand Term) → Choice
-at_inequality s bindings x y =
-    or_else (option_and_then (λ e. takes_if (differs s e.0 e.1) t.Apart) (both bindings x y))
-    (split_or s not_different)
-
--- a wanted cell at that term: the lowest one there, if it fits
-abbrev pub at_wanted_cell : State → List (Option Term) → Conjunct Term → Term → Choice
-at_wanted_cell s bindings c u =
-    at_cell s u
-    (λ a. or_else (takes_if (has_step (cell_step a) s bindings c) (t.Cell a)) (split_or s not_equal)) no_atom
-
--- the same where its root has a term
-abbrev pub at_points : State → List (Option Term) → Conjunct Term → Option Term → Choice
-at_points s bindings c None = split_or s no_atom
-at_points s bindings c (Some u) = at_wanted_cell s bindings c u
-
--- the lowest atom that is the wanted one
-abbrev pub exact_atom : State → Option Atom → Option Choice
-exact_atom s None = None
-exact_atom s (Some wanted) =
-    option_map (λ f. takes (t.Exact f.0)) (lowest (which (λ x. is_same_shape x wanted)) s.atoms)
-
--- the lowest cell at that term
-abbrev pub begins_with : State → Term → (ℕ → Tag) → Option Choice
-begins_with s u tag = option_map (λ f. takes (tag f.0)) (lowest (λ x. fields_at x u) s.atoms)
-
--- the lowest segment from that term: it is joined where the wanted end can't be inside it
-abbrev pub joins : State → (u v : Term) → Option Choice
-joins s u v = option_map (λ f. cond (is_constant v || allocated s v (Some f.0)) (takes (t.Join f.0))
-    (split_or s end_not_allocated)) (lowest (segment_at u) s.atoms)
-
--- a wanted list between these terms
-abbrev pub at_list : State → List (Option Term) → Conjunct Term → Option (Term × Term) → Choice
-at_list s bindings c None = split_or s no_atom
-at_list s bindings c (Some (u, v)) =
-    or_else (takes_if (has_step empty_step s bindings c) t.Empty)
-    (or_else (exact_atom s (wanted_shape bindings c))
-    (or_else (takes_if (not (differs s u v)) (t.Split u v))
-    (or_else (begins_with s u t.Head)
-    (or_else (joins s u v) (split_or s no_atom)))))
-
--- a wanted tree with that root
-abbrev pub at_tree : State → List (Option Term) → Conjunct Term → Option Term → Choice
-at_tree s bindings c None = split_or s no_atom
-at_tree s bindings c (Some u) =
-    or_else (takes_if (has_step empty_step s bindings c) t.Empty)
-    (or_else (exact_atom s (wanted_shape bindings c))
-    (or_else (begins_with s u t.Node)
-    (or_else (takes_if (not (differs s u Nil)) (t.Split u Nil)) (split_or s no_atom))))
-
--- one wanted conjunct
-abbrev pub at_wanted : State → List (Option Term) → Conjunct Term → Choice
-at_wanted s bindings (holds p True) = split_or s not_equal
-at_wanted s bindings (holds p (Equal x y)) = at_equality s bindings (holds p (Equal x y))
-at_wanted s bindings (holds p (Differ x y)) = at_inequality s bindings x y
-at_wanted s bindings (points p x fs) = at_points s bindings (points p x fs) (term_of bindings x)
-at_wanted s bindings (segment p next x y) =
-    at_list s bindings (segment p next x y) (both bindings x y)
-at_wanted s bindings (tree p left right x) = at_tree s bindings (tree p left right x) (term_of bindings x)
-at_wanted s bindings (choose p test this that) = at_choice s bindings test
-
--- the first wanted conjunct
-abbrev pub at_first_wanted : State → List (Option Term) → Conjuncts Term → Choice
-at_first_wanted s bindings none = split_or s no_atom
-at_first_wanted s bindings (also c cs) = at_wanted s bindings c
-
-abbrev pub at_want : State → Pending → Choice
-at_want s want = at_first_wanted s want.bindings want.conjuncts
-
--- The end
-abbrev pub at_end : State → List Numbered → Choice
-at_end s [] = takes t.End
-at_end s (a ∷ rest) = split_or s leak
-
--- by the item in front
-abbrev pub at_items : State → List Item → Choice
-at_items s (run c ∷ todo) = at_command s c
-at_items s (add p given ∷ todo) = at_given s given.bindings given.conjuncts
-at_items s (take p want names ∷ todo) = at_want s want
-at_items s (gave p set removed ∷ todo) = takes t.Give
-at_items s (head p test invariant body ∷ todo) = takes t.Around
-at_items s (again p invariant ∷ todo) = takes t.Again
-at_items s (exit p r ∷ todo) = takes t.Exit
-at_items s (return p post ∷ todo) = takes t.Return
-at_items s (end p ∷ todo) = at_end s s.atoms
-at_items s [] = takes t.End
-
--- Choose: an absurd state is closed; then the lowest empty atom goes; then the lowest atom that can only be empty is
--- so; then the item in front decides
-abbrev pub chooses : Goal → Choice
-chooses g =
-    or_else (takes_if (is_absurd g.state) t.Absurd)
-    (or_else (option_map (λ f. takes (t.Drop f.0)) (lowest (which is_nothing) g.state.atoms))
-    (or_else (option_map (λ f. takes (t.Force f.0)) (lowest_forced g.state g.state.atoms))
-    (at_items g.state g.todo)))
+-- STRATEGY: what it does at a goal, first by what is known and then by what is to do
+abbrev pub strategy : Goal → Choice
+strategy g = first_in (known g.state) (for_todo g.todo g.state)

@@ -23,8 +23,8 @@ mod settled;
 mod wanted;
 mod whole;
 
-pub use choice::{Choice, Kind};
+pub use choice::Choice;
 pub(crate) use growth::{Size, grown_bare, grown_roots, grows_settled, staying};
 pub(crate) use settled::{keeps_settled, leaves_possible};
 pub use whole::choose;
-pub(crate) use whole::{choose_in_front, choose_possible};
+pub(crate) use whole::{choose_in_front, choose_possible, choose_unknown};

@@ -9,7 +9,7 @@ mod choices;
 mod laws;
 mod verdicts;
 
-pub use choices::{Choice, Kind, choose};
+pub use choices::{Choice, choose};
 pub use laws::{
     arranged_is_set_up, goals_have_shape, programs_have_verdicts, search_exists, search_is_unique,
     taken_tags_have_rows, taken_tags_prove, verdicts_are_unique,

@@ -7,21 +7,21 @@ ghost use Rattle.sf_base.specs.Results.{Appends};
 ghost use Rattle.sf_precise.specs.Order.{IsOrdering};
 ghost use Rattle.sf_rules.specs.First.{first_goal as first_of};
 ghost use Rattle.sf_rules.specs.Checked.Children.{children_of, stack_of};
-ghost use Rattle.sf_rules.specs.Rows.Whole.{row};
+ghost use Rattle.sf_rules.specs.Checked.Rows.Whole.{row};
 ghost use Rattle.sf_rules.specs.Setting.{Setting, setting_of};
 ghost use Rattle.sf_search.specs.Checked.Growth.{staying};
 ghost use Rattle.sf_search.specs.Checked.Knowing.{IsKnownAfter};
 ghost use Rattle.sf_search.specs.Checked.Settled.{IsSettled};
 ghost use Rattle.sf_search.specs.Checked.ShapeLaws.{KeepsShape};
-ghost use Rattle.sf_search.specs.Strategy.{chooses};
-ghost use Rattle.sf_search.specs.Ends.{EndsAs, FailsAs, choice_of, failure};
+ghost use Rattle.sf_search.specs.Ends.{EndsAs, FailsAs, failure};
+ghost use Rattle.sf_search.specs.Checked.Chooses.{chooses};
 ghost use Rattle.sf_search.specs.Judge.{Judge, Search, proof, proved};
 ghost use Rattle.sf_sym.specs.Goal.{Goal as AnyGoal, goal_of};
 ghost use Rattle.sf_sym.specs.Tests.{is_absurd};
 ghost use Rattle.sf_sym.specs.declared.tag.Tag.TheVariants.{Procedure};
 
 use crate::choices::{
-    Choice, Kind, Size, choose, choose_in_front, choose_possible, grown_bare, grown_roots,
+    Choice, Size, choose_in_front, choose_possible, choose_unknown, grown_bare, grown_roots,
     grows_settled, keeps_settled, leaves_possible, staying,
 };
 use crate::laws::{arranged_is_set_up, goals_have_shape};
@@ -29,14 +29,14 @@ use sf_base::ProcId;
 use sf_base::limits::{FILE_TAGS, PROCEDURE_TAGS};
 use sf_precise::Arranged;
 use sf_rules::{Children, RuleFault, apply_row, first_goal, push_children};
-use sf_sym::{Goal, Tag};
+use sf_sym::{Goal, Stuck, Tag};
 use std::alloc::{AllocError, AllocFailed, Global};
 
 /// Why a search found no proof.
 #[derive(Drop)]
 pub enum SearchFault<'a> {
     /// The strategy goes no further at this goal, for this reason and after so many tags.
-    Stuck(Goal<'a>, Kind, usize),
+    Stuck(Goal<'a>, Stuck, usize),
     /// The proof would have more tags than a procedure's may have, or the file's would.
     TooLarge,
     /// Out of memory.
@@ -162,14 +162,14 @@ fn search_from<'a>(
 fn choose_knowing(alloc: Global, goal: &Goal, known: Known) -> Result<Choice, AllocError>
     requires settled { known.settled ≡ true → IsSettled goal.now.state }
     requires possible { known.possible ≡ true → is_absurd goal.now.state ≡ false }
-    ensures { IfOk result (λ c. choice_of c ≡ chooses (goal_of goal.now)) }
+    ensures { IfOk result (λ c. c ≡ chooses (goal_of goal.now)) }
 {
     if known.settled {
         choose_in_front(alloc, goal)
     } else if known.possible {
         choose_possible(alloc, goal)
     } else {
-        choose(alloc, goal)
+        choose_unknown(alloc, goal)
     }
 }
 

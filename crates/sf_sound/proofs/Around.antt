@@ -21,7 +21,8 @@ use Rattle.sf_core.specs.declared.command.Expr.{Expr}
 use Rattle.sf_core.specs.declared.command.Expr.TheVariants.{Nil as ENil}
 use Rattle.sf_core.specs.Machine.Config.{Item as Step, command, items}
 use Rattle.sf_core.specs.Program.Syntax.{Assertion, Block, while}
-use Rattle.sf_rules.specs.Rows.Loops.{after_loop, body_once, unknown_in}
+use Rattle.sf_rules.specs.Checked.Rows.Loops.{after_loop, body_once}
+use Rattle.sf_rules.specs.Rules.{unknown_in}
 use Rattle.sf_rules.specs.Setting.{Setting}
 use Rattle.sf_rules.specs.Checked.Lemmas.Forms.{body-run}
 use Rattle.sf_rules.specs.Words.{negation, pending_assertion, to_add, to_add_test}

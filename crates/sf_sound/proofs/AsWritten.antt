@@ -13,12 +13,13 @@ use Rattle.sf_core.specs.Program.Init.{is_init}
 use Rattle.sf_core.specs.Program.Syntax.{assign, look_up, mutate, new, dispose, if, while, call, fork, with, Call, Command, Procedure, Resource}
 use Rattle.sf_rules.specs.First.{first_goal, first_state_of}
 use Rattle.sf_rules.specs.Proving.{ProvesFrom}
-use Rattle.sf_rules.specs.Rows.Calls.{call_row, called, called_with, fork_row, forked, forked_with}
-use Rattle.sf_rules.specs.Rows.Front.{at_command, at_exit}
-use Rattle.sf_rules.specs.Rows.Regions.{enter_row, entered, entered_with, exit_row, variables_from}
-use Rattle.sf_rules.specs.Rows.Whole.{row, row_of}
+use Rattle.sf_rules.specs.Checked.Rows.Calls.{call_row, called, called_with, fork_row, forked, forked_with}
+use Rattle.sf_rules.specs.Checked.Rows.Front.{at_command, at_exit}
+use Rattle.sf_rules.specs.Checked.Rows.Regions.{enter_row, entered, entered_with, exit_row}
+use Rattle.sf_rules.specs.Resources.{variables_from}
+use Rattle.sf_rules.specs.Checked.Rows.Whole.{row, row_of}
 use Rattle.sf_rules.specs.Setting.{Setting}
-use Rattle.sf_rules.specs.Few.{has_numbers}
+use Rattle.sf_rules.specs.Rules.{has_numbers}
 use Rattle.sf_rules.specs.Words.{to_add, to_take}
 use Rattle.sf_sound.proofs.Running.{Shown, run, run-shown, shown-nothing, shown-procedure}
 use Rattle.sf_sym.specs.declared.tag.Tag.{Tag}

@@ -43,7 +43,7 @@ use Rattle.sf_core.specs.Program.Heads.{call_occurrences, head_calls, head_occur
 use Rattle.sf_core.specs.Program.Init.{is_init}
 use Rattle.sf_core.specs.Program.Syntax.{Assertion, Block, done, then, Call, Command, assign, look_up, mutate, new, dispose, if, while, call, fork, with, Procedure, Program, Resource}
 use Rattle.sf_precise.specs.Annotations.{owed}
-use Rattle.sf_rules.specs.Rows.Regions.{variables_from}
+use Rattle.sf_rules.specs.Resources.{variables_from, variables_of}
 use Rattle.sf_rules.specs.Setting.{Setting}
 use Rattle.sf_rules.specs.Checked.Lemmas.Forms.{body-run}
 use Rattle.sf_rules.specs.Words.{pending_assertion}
@@ -61,7 +61,7 @@ use Rattle.sf_sound.proofs.Words.{adding-does, adding-suits, body-holds}
 use Rattle.sf_sym.specs.Checked.Lemmas.Adding.{adding-holds}
 use Rattle.sf_sound.specs.Checked.Claims.{SatisfiesEach}
 use Rattle.sf_rules.specs.Checked.Lemmas.FirstVariables.{nils-all, own-listed, symbols-all, symbols-order}
-use Rattle.sf_rules.specs.First.{first_goal, first_state_of, links_of, nils, own_vars, symbols, variables_of, with_held}
+use Rattle.sf_rules.specs.First.{first_goal, first_state_of, links_of, nils, own_vars, symbols, with_held}
 use Rattle.sf_sound.specs.Checked.Suits.{Claim, Domain, HasDomain, IsListed, IsPassed, IsPlain, Suits, is_of}
 use Rattle.sf_sym.specs.Below.{AreBelow, IsBelow}
 use Rattle.sf_sym.specs.declared.term.Term.{Term}
@@ -71,7 +71,8 @@ use Rattle.sf_sym.specs.Holds.{term_value, Agrees, AtomsHold, Differ}
 use Rattle.sf_sym.specs.HoldsIn.{HoldsIn}
 use Rattle.sf_sym.specs.Checked.Lemmas.Below.{below-symbol}
 use Rattle.sf_sym.specs.Pending.{Pending}
-use Rattle.sf_sym.specs.Ready.{AreInOrder, is_listed}
+use Rattle.sf_sym.specs.Ready.{is_listed}
+use Rattle.sf_sym.specs.Variables.{AreInOrder}
 use Rattle.sf_sym.specs.State.{State, first_state, term}
 
 -- WHAT A BODY SETS it is one that it may set, or a resource's

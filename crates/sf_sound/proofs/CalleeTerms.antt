@@ -20,7 +20,7 @@ use Rattle.sf_core.specs.declared.command.Expr.{Expr}
 use Rattle.sf_core.specs.declared.command.Expr.TheVariants.{Var as Variable, Nil as ENil, Int as EInt}
 use Rattle.sf_core.specs.declared.command.Occurrence.{Occurrence}
 use Rattle.sf_core.specs.Program.Syntax.{Call, Procedure}
-use Rattle.sf_rules.specs.Rows.Calls.{callee_term, own_term, term_before, term_by}
+use Rattle.sf_rules.specs.Callee.{callee_term, own_term, term_before, term_by}
 use Rattle.sf_rules.specs.Setting.{Setting}
 use Rattle.sf_rules.specs.Words.{pending_assertion}
 use Rattle.sf_safe.specs.Checked.Local.{Lends, Local, arguments_in, callee_value, look, own_value, value_in}
@@ -34,9 +34,9 @@ use Rattle.sf_sound.specs.Checked.Suits.{CallSuits, Domain, HasDomain, IsListed,
 use Rattle.sf_sym.specs.declared.term.Term.{Term}
 use Rattle.sf_sym.specs.Holds.{term_value, Agrees, PendingHolds}
 use Rattle.sf_sym.specs.Checked.Lemmas.KnownValues.{listed-value}
-use Rattle.sf_sym.specs.Ready.{AreInOrder, is_listed}
+use Rattle.sf_sym.specs.Ready.{is_listed}
 use Rattle.sf_sym.specs.State.{State, term, term_at}
-use Rattle.sf_sym.specs.Variables.{fresh_for, set_vars}
+use Rattle.sf_sym.specs.Variables.{AreInOrder, fresh_for, set_vars}
 
 -- VALUES
 own-values : (w : ℕ → Value) (f : Expr → Term) (g : Expr → Value) (T : Var → Term) (V : Var → Value)

@@ -21,7 +21,7 @@ use Rattle.sf_core.specs.Machine.Step.{procedure_at}
 use Rattle.sf_core.specs.Program.Syntax.{Call, Procedure, call}
 use Rattle.sf_rules.specs.Checked.LawsOfCommands.{before_command}
 use Rattle.sf_rules.specs.Checked.Lemmas.Forms.{adding-assuming, body-assuming, form-command, taking-showing}
-use Rattle.sf_rules.specs.Rows.Calls.{term_after, term_before}
+use Rattle.sf_rules.specs.Callee.{term_after, term_before}
 use Rattle.sf_rules.specs.Setting.{Setting}
 use Rattle.sf_rules.specs.Words.{pending_assertion, to_add, to_take}
 use Rattle.sf_safe.specs.Checked.Local.{ComesBack, HasInAll, HasVar, Local, LocalParts, arguments_in, callee_value, value_in}

@@ -15,8 +15,8 @@ use Rattle.sf_core.specs.declared.command.Occurrence.{Occurrence}
 use Rattle.sf_core.specs.Machine.Config.{items}
 use Rattle.sf_core.specs.Program.Syntax.{Block, Command, assign, look_up, mutate, new, dispose, if}
 use Rattle.sf_rules.specs.Checked.LawsOfCommands.{before_command, Executed, AssignFollowsEvent, LookFollowsEvent, MutateFollowsEvent, NewFollowsEvent, DisposeFollowsEvent, ThenFollowsTest, ElseFollowsTest}
-use Rattle.sf_rules.specs.Rows.Branches.{branch_row, then_row, else_row}
-use Rattle.sf_rules.specs.Rows.Commands.{assign_row, look_row, mutate_row, new_row, dispose_row}
+use Rattle.sf_rules.specs.Checked.Rows.Branches.{branch_row, then_row, else_row}
+use Rattle.sf_rules.specs.Checked.Rows.Commands.{assign_row, look_row, mutate_row, new_row, dispose_row}
 use Rattle.sf_rules.specs.Setting.{Setting}
 use Rattle.sf_safe.specs.Checked.Local.{Local, look, put_local, put_variable}
 use Rattle.sf_safe.specs.Checked.LocalSafe.{LocalSafe}

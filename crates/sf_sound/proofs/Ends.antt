@@ -11,7 +11,7 @@ use Rattle.sf_core.specs.declared.command.Expr.{Expr}
 use Rattle.sf_core.specs.Program.Syntax.{Assertion, Program}
 use Rattle.sf_rules.specs.Checked.Lemmas.Forms.{taking-showing}
 use Rattle.sf_rules.specs.Setting.{Setting}
-use Rattle.sf_rules.specs.Rows.Ends.{is_empty}
+use Rattle.sf_rules.specs.Checked.Rows.Ends.{is_empty}
 use Rattle.sf_rules.specs.Words.{pending_assertion, to_take, to_take_each}
 use Rattle.sf_safe.specs.Checked.Local.{Local, value_in}
 use Rattle.sf_safe.specs.Checked.LocalSafe.{LocalSafe}

@@ -22,8 +22,8 @@ use Rattle.sf_sym.specs.declared.term.Term.TheVariants.{Sym}
 use Rattle.sf_sym.specs.Holds.{term_value, Agrees}
 use Rattle.sf_sym.specs.Checked.Lemmas.FreshValues.{value-below, value-here, with_value}
 use Rattle.sf_sym.specs.Checked.Lemmas.KnownValues.{set-agrees}
-use Rattle.sf_sym.specs.Ready.{AreInOrder, is_listed}
-use Rattle.sf_sym.specs.Variables.{fresh_for, set_var, set_vars}
+use Rattle.sf_sym.specs.Ready.{is_listed}
+use Rattle.sf_sym.specs.Variables.{AreInOrder, fresh_for, set_var, set_vars}
 
 -- the symbols from that number on have the values of the variables
 abbrev pub fresh_values : ℕ → List Var → (Var → Value) → (ℕ → Value) → ℕ → Value

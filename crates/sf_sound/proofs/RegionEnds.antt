@@ -20,7 +20,7 @@ use Rattle.sf_core.specs.declared.command.Expr.{Expr}
 use Rattle.sf_core.specs.declared.command.Expr.TheVariants.{Var as Variable, Nil, Int}
 use Rattle.sf_core.specs.Program.Formed.{ExprWithin}
 use Rattle.sf_core.specs.Program.Syntax.{Resource}
-use Rattle.sf_rules.specs.Rows.Regions.{variables_from}
+use Rattle.sf_rules.specs.Resources.{variables_from}
 use Rattle.sf_rules.specs.Setting.{Setting}
 use Rattle.sf_rules.specs.Checked.Lemmas.Forms.{body-assuming, taking-showing}
 use Rattle.sf_rules.specs.Words.{pending_assertion, to_take}

@@ -26,7 +26,7 @@ use Rattle.sf_core.specs.Machine.Config.{items, leave}
 use Rattle.sf_core.specs.Program.Formed.{ExprWithin, variable_count}
 use Rattle.sf_core.specs.Program.Syntax.{Block, Resource, with}
 use Rattle.sf_rules.specs.Checked.LawsOfCommands.{before_command}
-use Rattle.sf_rules.specs.Rows.Regions.{variables_from}
+use Rattle.sf_rules.specs.Resources.{variables_from}
 use Rattle.sf_rules.specs.Setting.{Setting}
 use Rattle.sf_rules.specs.Checked.Lemmas.Forms.{body-run, form-command}
 use Rattle.sf_rules.specs.Words.{pending_assertion, to_add, to_add_test}

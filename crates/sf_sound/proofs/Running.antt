@@ -9,7 +9,7 @@ use Rattle.sf_core.specs.Program.Syntax.{Procedure}
 use Rattle.sf_rules.specs.First.{first_goal}
 use Rattle.sf_rules.specs.Proving.{Proof, Proofs, ProvesFrom, and, by, no_more, preorder, preorders}
 use Rattle.sf_rules.specs.Checked.Lemmas.RowRules.{row-leaves}
-use Rattle.sf_rules.specs.Rows.Whole.{row}
+use Rattle.sf_rules.specs.Checked.Rows.Whole.{row}
 use Rattle.sf_rules.specs.Setting.{Setting}
 use Rattle.sf_sym.specs.declared.tag.Tag.{Tag}
 use Rattle.sf_sym.specs.declared.tag.Tag.TheVariants.{Procedure as Begin}

@@ -25,9 +25,9 @@ use Rattle.sf_sym.specs.Checked.Lemmas.Below.{pairs-weaker}
 use Rattle.sf_sym.specs.Checked.Lemmas.FreshGoals.{agree, atoms-stay, vars-stay}
 use Rattle.sf_sym.specs.Checked.Lemmas.KnownValues.{known-value}
 use Rattle.sf_sym.specs.Checked.Lemmas.OtherValues.{Same, pairs-other_values}
-use Rattle.sf_sym.specs.Ready.{AreInOrder, is_listed}
+use Rattle.sf_sym.specs.Ready.{is_listed}
 use Rattle.sf_sym.specs.State.{State, term}
-use Rattle.sf_sym.specs.Variables.{fresh_for, with_fresh}
+use Rattle.sf_sym.specs.Variables.{AreInOrder, fresh_for, with_fresh}
 
 -- where its variables agree with a frame's, expressions have the values that the frame sees
 pub terms-values : (d : Setting) (D : Domain) (s : State) → IsListed D s → (w : ℕ → Value) (l : Local)

@@ -13,10 +13,10 @@ use Rattle.sf_rules.specs.Checked.Lemmas.{few-left}
 use Rattle.sf_rules.specs.Checked.LawsOfCommands.{AssignFollowsEvent, LookFollowsEvent, MutateFollowsEvent, NewFollowsEvent, DisposeFollowsEvent, ThenFollowsTest, ElseFollowsTest}
 use Rattle.sf_rules.specs.Checked.LawsOfConjuncts.{AssumeKeepsGoals, AssumedBranchKeepsGoals, SubtractionLeavesRest, ShownBranchLeavesRest}
 use Rattle.sf_rules.specs.Checked.RowCases.{Rows, RowsHaveCases, by_absurd, by_add, by_again, by_around, by_assign, by_call, by_choice, by_choice_assumed, by_choice_shown, by_dispose, by_drop, by_end, by_enter, by_exit, by_force, by_fork, by_give, by_look, by_loop, by_mutate, by_new, by_return, by_split, by_step, by_unroll}
-use Rattle.sf_rules.specs.Rows.Add.{assume_row}
-use Rattle.sf_rules.specs.Rows.Branches.{branch_row}
-use Rattle.sf_rules.specs.Rows.Take.{subtract_row}
-use Rattle.sf_rules.specs.Rows.Whole.{row}
+use Rattle.sf_rules.specs.Checked.Rows.Add.{assume_row}
+use Rattle.sf_rules.specs.Checked.Rows.Branches.{branch_row}
+use Rattle.sf_rules.specs.Checked.Rows.Take.{subtract_row}
+use Rattle.sf_rules.specs.Checked.Rows.Whole.{row}
 use Rattle.sf_rules.specs.Setting.{Setting}
 use Rattle.sf_sound.proofs.Around.{around-claims}
 use Rattle.sf_sound.proofs.Calls.{call-claims}

@@ -15,7 +15,7 @@ use Rattle.sf_base.specs.declared.ids.Var.{Var}
 use Rattle.sf_base.specs.declared.ids.Var.TheVariants.{Own, Shared}
 use Rattle.sf_base.specs.declared.value.Value.{Value}
 use Rattle.sf_base.specs.declared.value.Value.TheVariants.{Nil as nil}
-use Rattle.sf_base.specs.HeapStore.{Heap, IsEmpty, Slot, Store, own, shared, ◌⋆◌}
+use Rattle.sf_base.specs.HeapStore.{Heap, IsEmpty, Slot, Store, own, shared}
 use Rattle.sf_base.proofs.Bools.{and-left, and-right, bool-same}
 use Rattle.sf_base.proofs.Options.{cond-some, is_some-false, is_some-map, option_map-some}
 use Rattle.sf_core.specs.declared.command.Expr.{Expr}
@@ -30,7 +30,7 @@ use Rattle.sf_foot.specs.declared.vars.Vars.{Vars}
 use Rattle.sf_foot.specs.Footprint.{IsFootprint}
 use Rattle.sf_foot.specs.Starting.{HasWidth, IsBeginning, StartsWith, assertions_of, store_of}
 use Rattle.sf_foot.specs.Variables.{value_of, values_or_none}
-use Rattle.sf_state.specs.declared.finding.Found.{Found}
+use Rattle.sf_foot.specs.declared.found.Found.{Found}
 use Rattle.sf_state.specs.Entering.{HoldsNone}
 use Rattle.sf_state.specs.Checked.Beginning.{Fits, SuitsFresh}
 use Rattle.sf_state.specs.Checked.Found.{AreFound, IsLeast}
@@ -147,8 +147,8 @@ pub begin-all : (as_found : List Assertion) (vars : Var → Value) (heap : Cells
     → (l : ℕ) → contains_key heap l ≡ is_member nat_eq (concat found.parts.items) l
 begin-all as_found vars heap found at are all taken l =
     bool-same (contains_key heap l) (is_member nat_eq (concat found.parts.items) l)
-    (λ h. sym (are.marks l) ∙ All-contains (λ q. contains nat_cmp found.taken q ≡ true) at l taken ((all l).0 h))
-    (are.there l)
+    (λ h. sym (are.apart.marks l) ∙ All-contains (λ q. contains nat_cmp found.taken q ≡ true) at l taken ((all l).0 h))
+    (are.apart.there l)
 
 -- where the variables of resources are nil, they are so in the store
 store-nil : (b : Beginning) (g : Procedure) (vars : Vars) → ((r : ResId) (i : ℕ) → value_of vars (Shared r i) ≡ nil)
@@ -290,9 +290,9 @@ pub begin-left_over : (as_found : List Assertion) (vars : Var → Value) (heap :
     → IsLeftOver vars (heap_of heap) as_found location
 begin-left_over as_found vars heap found at location are all first = record {
   parts = found.parts.items;
-  all = turns-from_parts vars (heap_of heap) as_found found.parts.items are.footprints are.distinct;
+  all = turns-from_parts vars (heap_of heap) as_found found.parts.items are.footprints are.apart.distinct;
   there = λ n. false≢true (sym (ap is_some (sym (without-other (concat found.parts.items) (heap_of heap) location
-      (sym (are.marks location) ∙ first.here.1)) ∙ n)) ∙ is_some-map cell_of (get heap location)
+      (sym (are.apart.marks location) ∙ first.here.1)) ∙ n)) ∙ is_some-map cell_of (get heap location)
       ∙ (all location).1 first.here.0);
   least = λ l some. first.least l (here l some (is_member nat_eq (concat found.parts.items) l) refl);
 }
@@ -300,7 +300,7 @@ begin-left_over as_found vars heap found at location are all first = record {
     here : (l : ℕ) → without (concat found.parts.items) (heap_of heap) l ≢ None → (b : Bool)
         → is_member nat_eq (concat found.parts.items) l ≡ b → Contains at l × (contains nat_cmp found.taken l ≡ false)
     here l some true e = absurd (some (without-taken (concat found.parts.items) (heap_of heap) l e))
-    here l some false e = ((all l).0 (present (contains_key heap l) refl), are.marks l ∙ e)
+    here l some false e = ((all l).0 (present (contains_key heap l) refl), are.apart.marks l ∙ e)
       where
         present : (b : Bool) → contains_key heap l ≡ b → contains_key heap l ≡ true
         present true h = h

@@ -1,51 +1,14 @@
 -- The set of the locations that were taken, and the lists of them.
 -- Names: `marks-LAW`.
-use Rattle.std.proofs.Common.{◌≡◌, ◌≢◌, ◌⊎◌, ◌<◌, ◌≤◌, ◌+◌, ◌||◌, ℕ, zero, suc, Bool, true, false, cond, nat_eq, nat_cmp, List, ◌∷◌, All, Contains, Some, length, take, drop, drop-cons, get_or, refl, sym, ap, ◌∙◌, subst, inl, inr, arith}
-use Rattle.std.specs.BTreeMap.{is_at}
+use Rattle.std.proofs.Common.{◌≡◌, ◌⊎◌, ◌<◌, ◌≤◌, ◌+◌, ℕ, zero, suc, true, false, nat_cmp, List, All, Contains, Some, length, take, get_or, sym, ap, ◌∙◌, subst, inl, inr, arith}
 use Rattle.std.specs.BTreeSet.{BTreeSet, contains}
 use Rattle.std.specs.List.Sorted.{IsStrictlyIncreasing}
-use Rattle.std.specs.Set.{is_member}
-use Rattle.std.proofs.lemmas.Bool.{cases_eq, cases_lt, false≢true}
-use Rattle.std.proofs.lemmas.Bool.Decides.{nat_tests}
+use Rattle.std.proofs.lemmas.Bool.{cases_lt, false≢true}
 use Rattle.std.proofs.lemmas.List.{get_or-take}
-use Rattle.sf_base.proofs.Numbers.{at-self, at-other}
 use Rattle.std.proofs.lemmas.List.{length-take}
 use Rattle.std.proofs.lemmas.Option.{get_or_from_slice_get, slice_get-get_or}
 use Rattle.sf_state.specs.Checked.Found.{IsLeast}
 use Rattle.sf_state.proofs.Raising.{read-at}
-
--- one more that is added is one fewer that is left
-pub marks-more : (taken new : BTreeSet ℕ) (x : ℕ) (rest : List ℕ) (q : ℕ)
-    → contains nat_cmp new q ≡ cond (is_at (nat_cmp x) q) true (contains nat_cmp taken q)
-    → (contains nat_cmp new q || is_member nat_eq rest q) ≡ (contains nat_cmp taken q || is_member nat_eq (x ∷ rest) q)
-marks-more taken new x rest q e = ap (λ b. b || is_member nat_eq rest q) e ∙ step (cases_eq q x)
-  where
-    same : (k y : ℕ) → k ≡ y → nat_eq k y ≡ true
-    same k y f = grind (arith, nat_tests)
-
-    other : (k y : ℕ) → k ≢ y → nat_eq k y ≡ false
-    other k y f = grind (arith, nat_tests)
-
-    first : (a b : Bool) → true ≡ (a || (true || b))
-    first true b = refl
-    first false b = refl
-
-    step : (q ≡ x) ⊎ (q ≢ x) → (cond (is_at (nat_cmp x) q) true (contains nat_cmp taken q) || is_member nat_eq rest q)
-        ≡ (contains nat_cmp taken q || (nat_eq q x || is_member nat_eq rest q))
-    step (inl f) = ap (λ b. cond b true (contains nat_cmp taken q) || is_member nat_eq rest q)
-        (ap (λ k. is_at (nat_cmp x) k) f ∙ at-self x)
-        ∙ first (contains nat_cmp taken q) (is_member nat_eq rest q)
-        ∙ ap (λ b. contains nat_cmp taken q || (b || is_member nat_eq rest q)) (sym (same q x f))
-    step (inr f) = ap (λ b. cond b true (contains nat_cmp taken q) || is_member nat_eq rest q)
-        (at-other x q (λ g. f (sym g)))
-        ∙ ap (λ b. contains nat_cmp taken q || (b || is_member nat_eq rest q)) (sym (other q x f))
-
--- what is left begins with the next
-pub marks-next : (at : List ℕ) (i x : ℕ) (q : ℕ) → i < length at → x ≡ get_or at i x
-    → is_member nat_eq (drop i at) q ≡ is_member nat_eq (x ∷ drop (i + 1) at) q
-marks-next at i x q h e = ap (λ xs. is_member nat_eq xs q)
-    (drop-cons at i x h ∙ ap (λ y. y ∷ drop (suc i) at) (sym e)
-    ∙ ap (λ k. x ∷ drop k at) (let one : suc i ≡ i + 1 = omega arith in one))
 
 -- numbers that rise rise further on
 rising-further : (xs : List ℕ) (i j : ℕ) → IsStrictlyIncreasing xs → i ≤ j → j < length xs

@@ -1,39 +1,36 @@
 -- The next footprint that is looked for, and what the ones so far are.
 -- Names: `ordered-LAW` for assertions in order; `found-CASE` for what comes of the next one.
-use Rattle.std.proofs.Common.{◌≡◌, ◌<◌, ◌≤◌, ◌+◌, ◌||◌, ℕ, zero, suc, Bool, true, false, nat_eq, nat_cmp, List, [], ◌∷◌, ◌++◌, Option, Some, None, All, Contains, length, take, slice_get, refl, sym, ap, ◌∙◌, subst, inl, inr, arith, append-nil}
+use Rattle.std.proofs.Common.{◌≡◌, ◌<◌, ◌≤◌, ◌+◌, ◌||◌, ℕ, zero, suc, Bool, true, false, nat_eq, nat_cmp, List, [], ◌∷◌, ◌++◌, Option, Some, None, Contains, length, take, slice_get, refl, sym, ap, ◌∙◌, subst, inl, inr, arith}
 use Rattle.std.specs.BTreeSet.{contains}
 use Rattle.std.specs.List.{AllByRecursion, AllZip, IsDistinct, concat}
-use Rattle.std.specs.List.Sorted.{IsStrictlyIncreasing}
 use Rattle.std.specs.Option.{IfSome, option_map}
-use Rattle.std.specs.Ordering.{eq_by_cmp}
 use Rattle.std.specs.Set.{is_member}
-use Rattle.std.proofs.lemmas.Bool.{false≢true, or_cases}
+use Rattle.std.proofs.lemmas.Bool.{false≢true}
 use Rattle.std.proofs.lemmas.List.{length-map, take_all, take_more}
 use Rattle.std.proofs.lemmas.Option.{get_or_from_slice_get, slice_get-map, slice_get_within, none-some}
-use Rattle.std.proofs.lemmas.List.Elements.{All-contains}
-use Rattle.std.proofs.lemmas.List.Folds.{concat-append, list_any-append}
-use Rattle.std.proofs.lemmas.Map.Keys.{IsDistinct-from_sorted, sorted_from_strictly_increasing}
 use Rattle.std.proofs.lemmas.Slice.Zip.{all_zipped_more}
 use Rattle.sf_base.specs.declared.ids.Var.{Var}
 use Rattle.sf_base.specs.declared.value.Value.{Value}
 use Rattle.sf_base.specs.declared.value.Value.TheVariants.{Nil as nil}
 use Rattle.sf_base.specs.HeapStore.{Heap}
 use Rattle.sf_base.proofs.Elements.{all_by-append, contains-cons}
-use Rattle.sf_base.proofs.Numbers.{at-is}
 use Rattle.sf_core.specs.Checked.Assertions.Laws.{DeterminedHasOneFootprint}
 use Rattle.sf_core.specs.Checked.Assertions.Precise.{IsPrecise}
 use Rattle.sf_core.specs.Assertions.Sat.{Sat, value}
 use Rattle.sf_core.specs.Program.Syntax.{Assertion, Procedure, Program, Resource}
-use Rattle.sf_heap.specs.Cells.{Cells, HasCell, heap_of}
+use Rattle.sf_heap.specs.Cells.{Cells, heap_of}
 use Rattle.sf_foot.specs.Footprint.{HasNoFootprint, IsFootprint}
 use Rattle.sf_precise.specs.Checked.Laws.{OrderedIsDetermined, OrderKeepsMeaning}
 use Rattle.sf_precise.specs.Order.{IsOrderOf}
 use Rattle.sf_foot.specs.Starting.{assertions_of}
-use Rattle.sf_state.specs.declared.finding.Found.{Found}
-use Rattle.sf_state.specs.Checked.Found.{AreFound}
+use Rattle.sf_foot.specs.declared.found.Found.{Found}
+use Rattle.sf_foot.specs.Found.{AreApart, FindsNext, HasNoneBeside}
+use Rattle.sf_state.specs.Checked.Found.{AlsoFound, AreFound}
+use Rattle.std.specs.declared.alloc.AllocError.{AllocError}
+use Rattle.std.specs.Prelude.{Result, Ok, Err}
 use Rattle.sf_state.specs.Starts.{IsUnmet, without}
 use Rattle.sf_state.proofs.Turns.{turns-from_parts}
-use Rattle.sf_state.proofs.Without.{member-decides, no_foot-left, no_foot-overlap}
+use Rattle.sf_state.proofs.Without.{foot-whole, part-none}
 
 -- an assertion that has an order is precise
 pub ordered-precise : OrderedIsDetermined → DeterminedHasOneFootprint → (a o : Assertion) (vars : Var → Value)
@@ -62,22 +59,19 @@ ordered-none keeps a o vars heap ord none part f = none part (record {
   sat = (keeps a.level o.level vars (λ n. nil) part ord.level).0 f.sat;
 })
 
--- there is none in the whole heap
-pub found-none : OrderKeepsMeaning → (a o : Assertion) (vars : Var → Value) (heap : Cells) (taken : List ℕ)
-    → IsOrderOf a o → HasNoFootprint o.level vars (heap_of heap) → HasNoFootprint a.level vars (without taken (heap_of heap))
-found-none keeps a o vars heap taken ord none =
-    no_foot-left a.level vars (heap_of heap) taken (ordered-none keeps a o vars (heap_of heap) ord none)
-
--- it has a cell of an earlier one
-pub found-overlap : OrderKeepsMeaning → OrderedIsDetermined → DeterminedHasOneFootprint → (a o : Assertion)
-    (before : List Assertion) (vars : Var → Value) (heap : Cells) (old : Found) (ls at : List ℕ) → IsOrderOf a o
-    → AreFound before vars heap old → IsFootprint o.level vars (heap_of heap) ls → at ≡ ls
-    → (l : ℕ) × Contains at l × (contains nat_cmp old.taken l ≡ true)
-    → HasNoFootprint a.level vars (without (concat old.parts.items) (heap_of heap))
-found-overlap keeps determined one a o before vars heap old ls at ord found f same both =
-    no_foot-overlap a.level vars (heap_of heap) (concat old.parts.items) ls both.0
-    (ordered-precise determined one a o vars ord) (ordered-foot keeps a o vars (heap_of heap) ls ord f)
-    (subst (λ xs. Contains xs both.0) same both.1) (sym (found.marks both.0) ∙ both.2)
+-- there is none beside the earlier ones
+pub found-none : OrderKeepsMeaning → OrderedIsDetermined → DeterminedHasOneFootprint → (a o : Assertion)
+    (vars : Var → Value) (heap : Heap) (taken : List ℕ) → IsOrderOf a o
+    → (IsPrecise (Sat o.level (value vars) (λ n. nil)) → HasNoneBeside taken o.level vars heap)
+    → HasNoFootprint a.level vars (without taken heap)
+found-none keeps determined one a o vars heap taken ord none part g =
+    none (λ whole two three other another s t h k. ordered-precise determined one a o vars ord whole two three other another
+    s t ((keeps a.level o.level vars (λ n. nil) two ord.level).1 h)
+    ((keeps a.level o.level vars (λ n. nil) three ord.level).1 k)) part (record {
+      rest = (foot-whole a.level vars heap part taken g).rest;
+      splits = (foot-whole a.level vars heap part taken g).splits;
+      sat = (keeps a.level o.level vars (λ n. nil) part ord.level).0 g.sat;
+    }) (part-none taken heap part g.rest g.splits)
 
 -- two lists without repeats that have no number together
 pub distinct-append : (xs ys : List ℕ) → IsDistinct nat_eq xs → IsDistinct nat_eq ys
@@ -101,50 +95,28 @@ distinct-append (x ∷ xs) ys d e out = (
     none [] h = tt
     none (z ∷ zs) h = (first (nat_eq x z) (is_member nat_eq zs x) h, none zs (rest (nat_eq x z) (is_member nat_eq zs x) h))
 
-distinct-rising : (xs : List ℕ) → IsStrictlyIncreasing xs → IsDistinct nat_eq xs
-distinct-rising xs r = subst (λ (e : ℕ → ℕ → Bool). IsDistinct e xs) same
-    (IsDistinct-from_sorted nat_cmp xs (sorted_from_strictly_increasing xs r))
-  where
-    same : eq_by_cmp nat_cmp ≡ nat_eq
-    same = λ i x y. at-is x y i
-
--- it has none, and is found too
+-- it has one, and is found too
 pub found-more : OrderKeepsMeaning → (a o : Assertion) (before : List Assertion) (vars : Var → Value) (heap : Cells)
-    (old new : Found) (ls at : List ℕ) → IsOrderOf a o → AreFound before vars heap old
-    → IsFootprint o.level vars (heap_of heap) ls → All (HasCell heap) ls → at ≡ ls → IsStrictlyIncreasing ls
-    → All (λ l. contains nat_cmp old.taken l ≡ false) at → new.parts.items ≡ old.parts.items ++ ls ∷ []
-    → ((q : ℕ) → contains nat_cmp new.taken q ≡ (contains nat_cmp old.taken q || is_member nat_eq at q))
+    (old new : Found) (ls : List ℕ) → IsOrderOf a o → AreFound before vars heap old → AreApart heap new
+    → new.parts.items ≡ old.parts.items ++ ls ∷ [] → IsFootprint o.level vars (heap_of heap) ls
     → AreFound (before ++ a ∷ []) vars heap new
-found-more keeps a o before vars heap old new ls at ord found f has same rises out parts marks = record {
+found-more keeps a o before vars heap old new ls ord found apart parts f = record {
   footprints = subst (λ ps. AllZip (λ a ls. IsFootprint a.level vars (heap_of heap) ls) (before ++ a ∷ []) ps) (sym parts)
       (all_zipped_more (λ (b : Assertion) ms. IsFootprint b.level vars (heap_of heap) ms) before old.parts.items a ls
       found.footprints (ordered-foot keeps a o vars (heap_of heap) ls ord f));
-  distinct = subst (IsDistinct nat_eq) (sym whole)
-      (distinct-append (concat old.parts.items) ls found.distinct (distinct-rising ls rises) apart);
-  there = λ l e. elim (or_cases (is_member nat_eq (concat old.parts.items) l) (is_member nat_eq ls l) (sym (members l) ∙ e)) [
-    | inl h ↦ found.there l h
-    | inr h ↦ All-contains (HasCell heap) ls l has ((member-decides ls l).0 h)
-  ];
-  marks = λ l. marks l ∙ ap (λ b. b || is_member nat_eq at l) (found.marks l)
-      ∙ ap (λ xs. is_member nat_eq (concat old.parts.items) l || is_member nat_eq xs l) same ∙ sym (members l);
+  apart = apart;
 }
-  where
-    whole : concat new.parts.items ≡ concat old.parts.items ++ ls
-    whole = ap concat parts ∙ concat-append old.parts.items (ls ∷ [])
-        ∙ ap (λ xs. concat old.parts.items ++ xs) (append-nil ls)
 
-    members : (l : ℕ) → is_member nat_eq (concat new.parts.items) l
-        ≡ (is_member nat_eq (concat old.parts.items) l || is_member nat_eq ls l)
-    members l = ap (λ xs. is_member nat_eq xs l) whole ∙ list_any-append (nat_eq l) (concat old.parts.items) ls
-
-    apart : (l : ℕ) → Contains (concat old.parts.items) l → is_member nat_eq ls l ≡ false
-    apart l c = go (is_member nat_eq ls l) refl
-      where
-        go : (b : Bool) → is_member nat_eq ls l ≡ b → is_member nat_eq ls l ≡ false
-        go false e = e
-        go true e = absurd (false≢true (sym (All-contains (λ q. contains nat_cmp old.taken q ≡ false) at l out
-            (subst (λ xs. Contains xs l) (sym same) ((member-decides ls l).0 e)))
-            ∙ found.marks l ∙ (member-decides (concat old.parts.items) l).1 c))
+-- what comes of the next one
+pub found-next : OrderKeepsMeaning → OrderedIsDetermined → DeterminedHasOneFootprint → (a o : Assertion)
+    (before : List Assertion) (vars : Var → Value) (heap : Cells) (old new : Found) (r : Result Bool AllocError)
+    → IsOrderOf a o → AreFound before vars heap old → FindsNext o.level vars heap old new r
+    → AlsoFound before a vars heap old new r
+found-next keeps determined one a o before vars heap old new (Ok true) ord found next =
+    found-more keeps a o before vars heap old new next.1 ord found next.0 next.2 next.3
+found-next keeps determined one a o before vars heap old new (Ok false) ord found next =
+    found-none keeps determined one a o vars (heap_of heap) (concat old.parts.items) ord next.1
+found-next keeps determined one a o before vars heap old new (Err e) ord found next = tt
 
 -- of the assertions of a start the next one is unmet
 pub found-unmet : (p : Program) (g : Procedure) (is_fresh : Bool) (vars : Var → Value) (heap : Cells) (found : Found)
@@ -155,7 +127,7 @@ pub found-unmet : (p : Program) (g : Procedure) (is_fresh : Bool) (vars : Var �
 found-unmet p g is_fresh vars heap found k a are there none = record {
   parts = found.parts.items;
   earlier = turns-from_parts vars (heap_of heap) (take k (assertions_of p g is_fresh)) found.parts.items are.footprints
-      are.distinct;
+      are.apart.distinct;
   assertion = a;
   there = there;
   none = none;
@@ -186,14 +158,11 @@ there-at (x ∷ xs) zero h = (x, refl)
 there-at (x ∷ xs) (suc k) h = there-at xs k (omega (arith, h))
 
 -- nothing is found yet
-pub found-nothing : (vars : Var → Value) (heap : Cells) (found : Found) → found.parts.items ≡ []
-    → ((l : ℕ) → contains nat_cmp found.taken l ≡ false) → AreFound [] vars heap found
-unfolding IsDistinct
-found-nothing vars heap found e marks = record {
+pub found-nothing : (vars : Var → Value) (heap : Cells) (found : Found) → found.parts.items ≡ [] → AreApart heap found
+    → AreFound [] vars heap found
+found-nothing vars heap found e apart = record {
   footprints = subst (λ ps. AllZip (λ (a : Assertion) ls. IsFootprint a.level vars (heap_of heap) ls) [] ps) (sym e) tt;
-  distinct = subst (λ ps. IsDistinct nat_eq (concat ps)) (sym e) tt;
-  there = λ l h. absurd (false≢true (sym (ap (λ ps. is_member nat_eq (concat ps) l) e) ∙ h));
-  marks = λ l. marks l ∙ sym (ap (λ ps. is_member nat_eq (concat ps) l) e);
+  apart = apart;
 }
 
 -- the invariant of the resource of a number is the assertion after that number

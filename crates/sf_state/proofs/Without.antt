@@ -1,5 +1,5 @@
 -- Footprints in a heap and in what is left of it without some cells.
--- Names: `without-LAW` for what is left; `foot-LAW` for footprints in it; `no_foot-LAW` for none.
+-- Names: `without-LAW` for what is left; `foot-LAW` and `part-LAW` for footprints and parts in it.
 use Rattle.std.proofs.Common.{◌≡◌, ◌≢◌, ◌⊎◌, ◌||◌, ℕ, Bool, true, false, cond, nat_eq, List, ◌++◌, Option, Some, None, Contains, refl, sym, ap, ap₂, ◌∙◌, subst, inl, inr}
 use Rattle.std.specs.Option.{option_or}
 use Rattle.std.specs.Set.{is_member}
@@ -19,7 +19,7 @@ use Rattle.sf_core.specs.declared.command.Expr.{Expr}
 use Rattle.sf_core.specs.Checked.Assertions.Precise.{IsPrecise}
 use Rattle.sf_core.specs.Assertions.Sat.{Foot, Sat, value}
 use Rattle.sf_core.specs.Program.Syntax.{Level}
-use Rattle.sf_foot.specs.Footprint.{HasNoFootprint, IsFootprint}
+use Rattle.sf_foot.specs.Footprint.{IsFootprint}
 use Rattle.sf_state.specs.Starts.{without}
 
 -- a number is a member where the list has it
@@ -87,7 +87,7 @@ abbrev with_back : List ℕ → (heap rest : Heap) → Heap
 with_back ls heap rest l = cond (is_member nat_eq ls l) (heap l) (rest l)
 
 -- a part of what is left is a part of the whole, and has none of the cells that were taken away
-part-none : (ls : List ℕ) (heap part rest : Heap) → Splits (without ls heap) part rest → (l : ℕ)
+pub part-none : (ls : List ℕ) (heap part rest : Heap) → Splits (without ls heap) part rest → (l : ℕ)
     → is_member nat_eq ls l ≡ true → part l ≡ None
 part-none ls heap part rest s l e = first-none (part l) (rest l) (sym (s.is l) ∙ without-taken ls heap l e)
 
@@ -128,21 +128,6 @@ foot-whole a vars heap part taken f = record {
   splits = splits-back taken heap part f.rest f.splits;
   sat = f.sat;
 }
-
--- where the whole has none, what is left has none
-pub no_foot-left : (a : Level Expr) (vars : Var → Value) (heap : Heap) (taken : List ℕ) → HasNoFootprint a vars heap
-    → HasNoFootprint a vars (without taken heap)
-no_foot-left a vars heap taken none part f = none part (foot-whole a vars heap part taken f)
-
--- nor where the one of the whole has one of the cells that were taken away
-pub no_foot-overlap : (a : Level Expr) (vars : Var → Value) (heap : Heap) (taken ls : List ℕ) (l : ℕ)
-    → IsPrecise (Sat a (value vars) (λ n. nil)) → IsFootprint a vars heap ls → Contains ls l
-    → is_member nat_eq taken l ≡ true → HasNoFootprint a vars (without taken heap)
-no_foot-overlap a vars heap taken ls l precise f here e part g =
-    let back = foot-whole a vars heap part taken g in
-    let same : f.part ≡ part =
-    precise heap f.part part f.foot.rest back.rest f.foot.splits back.splits f.foot.sat g.sat in
-    (f.at l).1 here (ap (λ (h : Heap). h l) same ∙ part-none taken heap part g.rest g.splits l e)
 
 -- two footprints of one assertion leave the same
 pub foot-same : (a : Level Expr) (vars : Var → Value) (heap : Heap) (ls ms : List ℕ)

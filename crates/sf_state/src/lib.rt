@@ -45,4 +45,4 @@ pub use fault::StartFault;
 pub use finish::write;
 pub use start::read;
 pub use state::{State, read_state};
-pub use text::state_text;
+pub use text::{put_cells, put_value, state_text};

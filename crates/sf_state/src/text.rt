@@ -33,7 +33,7 @@ fn put_location(text: &mut Vec<u8>, location: u64) -> Result<(), AllocError>
 }
 
 /// Appends a value. An `Err` means out of memory.
-fn put_value(text: &mut Vec<u8>, value: Value) -> Result<(), AllocError>
+pub fn put_value(text: &mut Vec<u8>, value: Value) -> Result<(), AllocError>
     ensures { Appends result text.old.items text.new.items (value_text value) }
 {
     match value {
@@ -121,8 +121,14 @@ fn values_at(heap: &Heap, location: u64) -> &[Value]
     }
 }
 
-/// Appends the lines of cells. An `Err` means out of memory.
-fn put_cells(text: &mut Vec<u8>, fields: &[Name], heap: &Heap, at: &[u64]) -> Result<(), AllocError>
+/// Appends the lines of the cells at those locations, each with the fields of these names, in order.
+/// An `Err` means out of memory.
+pub fn put_cells(
+    text: &mut Vec<u8>,
+    fields: &[Name],
+    heap: &Heap,
+    at: &[u64],
+) -> Result<(), AllocError>
     ensures { Appends result text.old.items text.new.items
         (cell_lines fields.now (map.get heap.now) at.now) }
 {

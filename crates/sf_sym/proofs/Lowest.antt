@@ -1,12 +1,12 @@
 -- The first atom that passes a test has the lowest number of those that pass it.
 -- Names: `lowest-LAW` of a list with one atom more in front, TEST-lowest of the first atom that passes it.
-use Rattle.std.proofs.Common.{◌≡◌, ℕ, ◌<◌, Bool, true, false, cond, is_some, Option, Some, None, List, [], ◌∷◌, refl, sym, ap, subst, inl, inr, arith}
+use Rattle.std.proofs.Common.{◌≡◌, ℕ, ◌<◌, Bool, true, false, cond, is_some, Option, Some, None, List, [], ◌∷◌, refl, ap, subst, inl, inr, arith}
 use Rattle.std.specs.List.{AllByRecursion, Contains}
 use Rattle.std.specs.Option.{option_map}
 use Rattle.sf_base.proofs.Elements.{contains-cons, contains-nil}
 use Rattle.sf_sym.specs.declared.atom.Numbered.{Numbered}
 use Rattle.sf_sym.specs.declared.term.Term.{Term}
-use Rattle.sf_sym.specs.Known.{IsLowest, first_forced, first_nothing, forced_ends, is_nothing, or_else}
+use Rattle.sf_sym.specs.Known.{IsLowest, first_forced, first_nothing, forced_pair, is_nothing, or_else}
 use Rattle.sf_sym.specs.Numbers.{AreRising, numbers}
 use Rattle.sf_sym.specs.State.{State}
 
@@ -55,16 +55,16 @@ nothing-lowest (x ∷ xs) r = go (nothing-lowest xs r.1) (is_nothing x.atom) ref
     go others false e = lowest-later (λ a. is_nothing a.atom) x xs (first_nothing xs) e others
 
 pub forced-lowest : (s : State) (xs : List Numbered) → AreRising (numbers xs)
-    → IsLowest (λ a. is_some (forced_ends s a.number a.atom)) xs (option_map (λ f. f.0) (first_forced s xs))
+    → IsLowest (λ a. is_some (forced_pair s a.number a.atom)) xs (option_map (λ f. f.0) (first_forced s xs))
 forced-lowest s [] r = λ a c. absurd (contains-nil a c)
-forced-lowest s (x ∷ xs) r = go (forced-lowest s xs r.1) (forced_ends s x.number x.atom) refl
+forced-lowest s (x ∷ xs) r = go (forced-lowest s xs r.1) (forced_pair s x.number x.atom) refl
   where
-    go : IsLowest (λ a. is_some (forced_ends s a.number a.atom)) xs (option_map (λ f. f.0) (first_forced s xs))
-        → (o : Option (Term × Term)) → forced_ends s x.number x.atom ≡ o
-        → IsLowest (λ a. is_some (forced_ends s a.number a.atom)) (x ∷ xs)
+    go : IsLowest (λ a. is_some (forced_pair s a.number a.atom)) xs (option_map (λ f. f.0) (first_forced s xs))
+        → (o : Option (Term × Term)) → forced_pair s x.number x.atom ≡ o
+        → IsLowest (λ a. is_some (forced_pair s a.number a.atom)) (x ∷ xs)
         (option_map (λ f. f.0) (or_else (option_map (λ e. (x.number, e.0, e.1)) o) (first_forced s xs)))
     go others (Some ends) e =
-        lowest-here (λ a. is_some (forced_ends s a.number a.atom)) x xs r (ap is_some e)
+        lowest-here (λ a. is_some (forced_pair s a.number a.atom)) x xs r (ap is_some e)
     go others None e =
-        lowest-later (λ a. is_some (forced_ends s a.number a.atom)) x xs
+        lowest-later (λ a. is_some (forced_pair s a.number a.atom)) x xs
         (option_map (λ f. f.0) (first_forced s xs)) (ap is_some e) others

@@ -1,14 +1,14 @@
 -- Which atoms of a state can only be empty, and which of them is the first, having the lowest number.
 -- Berdine, Calcagno, O'Hearn, "Symbolic Execution with Separation Logic" (2005), section 4: normalization.
 use Rattle.std.specs.Prelude.{◌≡◌, ◌≤◌, ℕ, Bool, true, false, Contains, ◌&&◌, ◌||◌, not, cond, Option, Some, None, List, [], ◌∷◌}
-use Rattle.std.specs.Option.{option_and_then, option_map}
+use Rattle.std.specs.Option.{option_map}
 use Rattle.sf_sym.specs.declared.atom.Atom.{Atom}
 use Rattle.sf_sym.specs.declared.atom.Atom.TheVariants.{Points, Ls, Tree}
 use Rattle.sf_sym.specs.declared.atom.Numbered.{Numbered}
 use Rattle.sf_sym.specs.declared.term.Term.{Term}
 use Rattle.sf_sym.specs.declared.term.Term.TheVariants.{Nil}
 use Rattle.sf_sym.specs.State.{State}
-use Rattle.sf_sym.specs.Tests.{allocated, is_constant, same_term}
+use Rattle.sf_sym.specs.Tests.{allocated, is_constant, root, same_term}
 
 -- an empty segment or tree: from a term to itself, or from nil
 abbrev pub is_nothing : Atom → Bool
@@ -16,20 +16,26 @@ is_nothing (Points t fields) = false
 is_nothing (Ls t u) = same_term t u
 is_nothing (Tree t) = same_term t Nil
 
--- the ends of a segment or a tree, which are its root and where it ends
+-- the ends of a segment or a tree: its root, and where it ends
 abbrev pub ends : Atom → Option (Term × Term)
 ends (Points t fields) = None
 ends (Ls t u) = Some (t, u)
 ends (Tree t) = Some (t, Nil)
 
--- a segment or tree with these ends and that number is empty: its root can't be a cell of its own, being a constant or
--- a cell of another atom, and its ends aren't one term yet
-abbrev pub is_forced : State → (a : ℕ) → Term × Term → Bool
-is_forced s a e = not (same_term e.0 e.1) && (is_constant e.0 || allocated s e.0 (Some a))
+-- the term is no cell of atom a: it is a constant, or a cell of another atom
+abbrev pub is_elsewhere : State → (a : ℕ) → Term → Bool
+is_elsewhere s a t = is_constant t || allocated s t (Some a)
 
--- the ends of such an atom, which then are the same
-abbrev pub forced_ends : State → (a : ℕ) → Atom → Option (Term × Term)
-forced_ends s a x = option_and_then (λ e. cond (is_forced s a e) (Some e) None) (ends x)
+-- two terms that aren't one yet, but are the same since the atom can only be empty: where its root
+-- is elsewhere, its ends are the same
+abbrev pub forced_by : (elsewhere : Bool) → Atom → Option (Term × Term)
+forced_by elsewhere (Points t fields) = None
+forced_by elsewhere (Ls t u) = cond (not (same_term t u) && elsewhere) (Some (t, u)) None
+forced_by elsewhere (Tree t) = cond (not (same_term t Nil) && elsewhere) (Some (t, Nil)) None
+
+-- such terms of the atom of that number
+abbrev pub forced_pair : State → (a : ℕ) → Atom → Option (Term × Term)
+forced_pair s a x = forced_by (is_elsewhere s a (root x)) x
 
 -- the number of the first atom that is nothing
 abbrev pub first_nothing : List Numbered → Option ℕ
@@ -41,11 +47,11 @@ abbrev pub or_else : {X : Type 0} → Option X → Option X → Option X
 or_else (Some x) y = Some x
 or_else None y = y
 
--- the number and the ends of the first atom that is forced
+-- the number of the first atom that is forced, and the two terms
 abbrev pub first_forced : State → List Numbered → Option (ℕ × Term × Term)
 first_forced s [] = None
 first_forced s (a ∷ rest) =
-    or_else (option_map (λ e. (a.number, e.0, e.1)) (forced_ends s a.number a.atom)) (first_forced s rest)
+    or_else (option_map (λ e. (a.number, e.0, e.1)) (forced_pair s a.number a.atom)) (first_forced s rest)
 
 -- IsLowest: that is the lowest number of an atom that passes the test, and None exactly where none passes it
 abbrev pub IsLowest : (Numbered → Bool) → List Numbered → Option ℕ → Type 0

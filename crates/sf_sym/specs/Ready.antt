@@ -18,7 +18,6 @@ use Rattle.sf_sym.specs.declared.atom.Atom.{Atom}
 use Rattle.sf_sym.specs.declared.atom.Atom.TheVariants.{Points, Ls, Tree}
 use Rattle.sf_sym.specs.declared.term.Term.{Term}
 use Rattle.sf_sym.specs.Fields.{AreOrdered}
-use Rattle.sf_sym.specs.Variables.{comes_before}
 
 -- whether a variable has a term
 abbrev pub is_listed : List (Var × Term) → Var → Bool
@@ -65,11 +64,6 @@ HasValue e x = IsIn (λ y. is_some (e y)) x
 -- and for what both sides of the test read
 abbrev pub HasTestValues : (Var → Option Value) → Test Expr → Type 0
 HasTestValues e test = IsTestIn (λ y. is_some (e y)) test
-
--- variables in order, each once
-abbrev pub AreInOrder : List (Var × Term) → Type 0
-AreInOrder [] = Unit {0}
-AreInOrder (v ∷ vs) = AllByRecursion (λ (u : Var × Term). comes_before v.0 u.0 ≡ true) vs × AreInOrder vs
 
 -- a cell's fields are in order
 abbrev pub HasOrder : Atom → Type 0

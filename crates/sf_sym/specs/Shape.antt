@@ -9,7 +9,8 @@ use Rattle.sf_sym.specs.Below.{AreBelow}
 use Rattle.sf_sym.specs.declared.atom.Numbered.{Numbered}
 use Rattle.sf_sym.specs.Formed.{AreFormed}
 use Rattle.sf_sym.specs.Goal.{Item, run, add, take, gave, head, again, exit, return, end, Goal}
-use Rattle.sf_sym.specs.Ready.{AreInOrder, HasOrder, ReadsIn, is_listed}
+use Rattle.sf_sym.specs.Ready.{HasOrder, ReadsIn, is_listed}
+use Rattle.sf_sym.specs.Variables.{AreInOrder}
 
 -- commands and the ends of regions, up to the end of a procedure or of a loop's body
 abbrev pub IsBody : List Item → Type 0

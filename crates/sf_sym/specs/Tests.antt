@@ -39,13 +39,23 @@ abbrev pub differs_at_once : List (Term × Term) → Term → Term → Bool
 differs_at_once apart t u =
     is_constant t && is_constant u && not (same_term t u) || list_any (is_pair t u) apart
 
--- the term at which an atom begins
+-- the terms at which an atom begins
+abbrev pub roots : Atom → List Term
+roots (Points t fields) = t ∷ []
+roots (Ls t u) = t ∷ []
+roots (Tree t) = t ∷ []
+
+-- the first of them
 abbrev pub root : Atom → Term
 root (Points t fields) = t
 root (Ls t u) = t
 root (Tree t) = t
 
--- an atom has a cell at its root: it is a cell, or a segment or a tree that isn't empty
+-- an atom begins at the term
+abbrev pub begins : Term → Atom → Bool
+begins t a = list_any (λ r. same_term r t) (roots a)
+
+-- an atom has a cell at each of its roots: it is a cell, or a segment or a tree that isn't empty
 abbrev pub has_cell : List (Term × Term) → Atom → Bool
 has_cell apart (Points t fields) = true
 has_cell apart (Ls t u) = differs_at_once apart t u
@@ -53,7 +63,7 @@ has_cell apart (Tree t) = differs_at_once apart t Nil
 
 -- an atom allocates a term: it has a cell there
 abbrev pub allocates : List (Term × Term) → Term → Atom → Bool
-allocates apart t a = same_term (root a) t && has_cell apart a
+allocates apart t a = begins t a && has_cell apart a
 
 -- whether a number is the one that is left out
 abbrev pub is_left_out : Option ℕ → ℕ → Bool
@@ -82,7 +92,7 @@ differs s t u =
 
 -- an atom has a cell at a constant
 abbrev pub is_at_constant : List (Term × Term) → Atom → Bool
-is_at_constant apart a = is_constant (root a) && has_cell apart a
+is_at_constant apart a = list_any is_constant (roots a) && has_cell apart a
 
 -- an atom is the tree of an integer
 abbrev pub is_integer_tree : Atom → Bool
@@ -96,11 +106,15 @@ is_integer_tree (Tree (Sym n)) = false
 abbrev pub is_impossible : List (Term × Term) → Atom → Bool
 is_impossible apart a = is_at_constant apart a || is_integer_tree a
 
+-- one of these atoms allocates the term
+abbrev pub is_allocated_in : List (Term × Term) → List Numbered → Term → Bool
+is_allocated_in apart atoms t = list_any (λ b. allocates apart t b.atom) atoms
+
 -- two atoms of the list allocate one term
 abbrev pub has_repeat : List (Term × Term) → List Numbered → Bool
 has_repeat apart [] = false
 has_repeat apart (a ∷ rest) =
-    list_any (λ b. allocates apart (root a.atom) b.atom) rest && has_cell apart a.atom
+    list_any (is_allocated_in apart rest) (roots a.atom) && has_cell apart a.atom
     || has_repeat apart rest
 
 -- no store and heap have the state: a term would differ from itself, or a constant would be a location,

@@ -1,7 +1,8 @@
 ghost use Rattle.std.specs.Prelude.{◌≡◌, IfOk};
+ghost use Rattle.std.specs.List.{list_any};
 ghost use Rattle.std.specs.Option.{option_map};
 ghost use Rattle.sf_sym.specs.Cells.{fields_at};
-ghost use Rattle.sf_sym.specs.Tests.{root};
+ghost use Rattle.sf_sym.specs.Tests.{begins, is_constant, root, roots};
 
 use crate::fields::FieldTerms;
 use crate::term::Term;
@@ -29,12 +30,30 @@ pub struct Numbered {
 }
 
 impl Atom {
-    /// The term at which it begins.
+    /// The first term at which it begins.
     pub fn root(&self) -> Term
         ensures { result ≡ root self.now }
     {
         match self {
             Atom::Points(t, _) | Atom::Ls(t, _) | Atom::Tree(t) => *t,
+        }
+    }
+
+    /// Whether it begins at that term.
+    pub fn begins(&self, t: Term) -> bool
+        ensures { result ≡ begins t self.now }
+    {
+        match self {
+            Atom::Points(r, _) | Atom::Ls(r, _) | Atom::Tree(r) => r.is(t),
+        }
+    }
+
+    /// Whether it begins at a constant.
+    pub(crate) fn begins_at_constant(&self) -> bool
+        ensures { result ≡ list_any is_constant (roots self.now) }
+    {
+        match self {
+            Atom::Points(r, _) | Atom::Ls(r, _) | Atom::Tree(r) => r.is_constant(),
         }
     }
 

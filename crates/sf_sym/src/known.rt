@@ -6,7 +6,7 @@ ghost use Rattle.std.specs.Bool.{OnTrue};
 ghost use Rattle.std.specs.List.{list_any};
 ghost use Rattle.std.specs.Ordering.{nat_cmp};
 ghost use Rattle.sf_sym.specs.Checked.OwnRoots.{HaveOwnCells, HaveOwnRoots, cell_symbols};
-ghost use Rattle.sf_sym.specs.Tests.{allocated, allocates, are_both_allocated, differs, differs_at_once, has_cell, has_repeat, is_absurd, is_constant, is_impossible, is_integer_tree, is_left_out, is_pair, parts, root, same_term};
+ghost use Rattle.sf_sym.specs.Tests.{allocated, allocates, are_both_allocated, differs, differs_at_once, has_cell, has_repeat, is_absurd, is_allocated_in, is_constant, is_impossible, is_integer_tree, is_left_out, is_pair, parts, roots, same_term};
 
 use crate::atom::{Atom, Numbered};
 use crate::roots::{have_own_roots, own_cells};
@@ -155,7 +155,7 @@ fn is_pair(p: (Term, Term), t: Term, u: Term) -> bool
     p.0.is(t) && p.1.is(u) || p.0.is(u) && p.1.is(t)
 }
 
-/// Whether the atom has a cell at its root.
+/// Whether the atom has a cell at each of its roots.
 pub(crate) fn has_cell(apart: &[(Term, Term)], atom: &Atom) -> bool
     ensures { result ≡ has_cell apart.now atom.now }
 {
@@ -170,7 +170,7 @@ pub(crate) fn has_cell(apart: &[(Term, Term)], atom: &Atom) -> bool
 fn allocates(apart: &[(Term, Term)], t: Term, atom: &Atom) -> bool
     ensures { result ≡ allocates apart.now t atom.now }
 {
-    atom.root().is(t) && has_cell(apart, atom)
+    atom.begins(t) && has_cell(apart, atom)
 }
 
 /// Whether an atom of the list other than number `except` has a cell at the term.
@@ -214,7 +214,7 @@ fn has_impossible(apart: &[(Term, Term)], atoms: &[Numbered]) -> bool
 fn is_impossible(apart: &[(Term, Term)], atom: &Atom) -> bool
     ensures { result ≡ is_impossible apart.now atom.now }
 {
-    atom.root().is_constant() && has_cell(apart, atom) || is_integer_tree(atom)
+    atom.begins_at_constant() && has_cell(apart, atom) || is_integer_tree(atom)
 }
 
 /// Whether the atom is the tree of an integer.
@@ -242,16 +242,32 @@ fn repeats(apart: &[(Term, Term)], atoms: &[Numbered], later: &[Numbered]) -> bo
 
 /// Whether the atom and one of the two lists have cells at one term.
 fn recurs(apart: &[(Term, Term)], atom: &Atom, rest: &[Numbered], later: &[Numbered]) -> bool
-    ensures { result ≡ (list_any (λ b. allocates apart.now (root atom.now) b.atom)
-        (rest.now ++ later.now) && has_cell apart.now atom.now) }
+    ensures { result ≡ (list_any (is_allocated_in apart.now (rest.now ++ later.now))
+        (roots atom.now) && has_cell apart.now atom.now) }
 {
-    let root = atom.root();
-    (has_allocator(apart, rest, root) || has_allocator(apart, later, root)) && has_cell(apart, atom)
+    begins_in(apart, atom, rest, later) && has_cell(apart, atom)
+}
+
+/// Whether the atom begins at a term at which one of the two lists has a cell.
+fn begins_in(apart: &[(Term, Term)], atom: &Atom, rest: &[Numbered], later: &[Numbered]) -> bool
+    ensures { result ≡ list_any (is_allocated_in apart.now (rest.now ++ later.now))
+        (roots atom.now) }
+{
+    match atom {
+        Atom::Points(r, _) | Atom::Ls(r, _) | Atom::Tree(r) => is_in(apart, *r, rest, later),
+    }
+}
+
+/// Whether an atom of one of the two lists has a cell at the term.
+fn is_in(apart: &[(Term, Term)], t: Term, rest: &[Numbered], later: &[Numbered]) -> bool
+    ensures { result ≡ is_allocated_in apart.now (rest.now ++ later.now) t }
+{
+    has_allocator(apart, rest, t) || has_allocator(apart, later, t)
 }
 
 /// Whether an atom of the list has a cell at the term.
 fn has_allocator(apart: &[(Term, Term)], atoms: &[Numbered], t: Term) -> bool
-    ensures { result ≡ list_any (λ b. allocates apart.now t b.atom) atoms.now }
+    ensures { result ≡ is_allocated_in apart.now atoms.now t }
 {
     atoms.iter().any(|b| allocates(apart, t, &b.atom))
 }

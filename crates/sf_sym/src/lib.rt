@@ -16,6 +16,7 @@
 //! - `todo`: the items of a goal.
 //! - `copy`: copies of goals.
 //! - `tag`: the steps of a proof.
+//! - `stuck`: why a proof has no step at a goal.
 //! - `replace`: replacing a symbol by a term.
 //! - `vars`: the terms of the variables.
 //! - `laws`: what the tests of a state tell of its stores and heaps.
@@ -36,6 +37,7 @@ mod pending;
 mod replace;
 mod roots;
 mod state;
+mod stuck;
 mod tag;
 mod term;
 mod todo;
@@ -47,6 +49,7 @@ pub use fields::{FieldTerms, field_term};
 pub use goal::{Goal, Item};
 pub use pending::Pending;
 pub use state::State;
+pub use stuck::Stuck;
 pub use tag::Tag;
 pub use term::Term;
 pub use todo::{next_item, peek_item, with_add, with_take};

@@ -5,7 +5,8 @@ ghost use Rattle.std.specs.BTreeSet.{contains};
 ghost use Rattle.std.specs.Bool.{OnTrue};
 ghost use Rattle.std.specs.Ordering.{nat_cmp};
 ghost use Rattle.std.specs.Prelude.{◌≡◌, ◌++◌, ℕ, IfSome, List, false};
-ghost use Rattle.sf_sym.specs.Checked.OwnRoots.{AreApart, HaveOwnCells, HaveOwnRoots, cell_place, cell_symbols, ends_at_constant, first_at_constant, has_symbol, is_settled, root_place, symbols_at, with_symbol};
+ghost use Rattle.sf_sym.specs.Checked.OwnRoots.{AreApart, AreNew, HaveOwnCells, HaveOwnRoots, cell_places, cell_symbols, first_at_constant, has_symbol, is_settled, root_places, symbols_at, with_symbol, with_symbols};
+ghost use Rattle.sf_sym.specs.Tests.{roots};
 ghost use Rattle.sf_sym.specs.declared.atom.Numbered.{Numbered as NumberedOf};
 
 use crate::atom::{Atom, Numbered};
@@ -51,12 +52,12 @@ pub(crate) fn own_cells(
 /// Notes the symbols at which the atoms begin. `true` only where none was there.
 fn note_roots(seen: &mut BTreeSet<u32>, atoms: &[Numbered]) -> bool
     ensures { OnTrue result ((later : List NumberedOf)
-        → AreApart root_place (contains nat_cmp seen.new) later
-        → AreApart root_place (contains nat_cmp seen.old) (atoms.now ++ later)) }
+        → AreApart root_places (contains nat_cmp seen.new) later
+        → AreApart root_places (contains nat_cmp seen.old) (atoms.now ++ later)) }
 {
     let mut left = atoms;
     while let Some((first, rest)) = left.split_first() {
-        if !note(seen, first.atom.root()) {
+        if !note_atom(seen, &first.atom) {
             return false;
         }
         left = rest;
@@ -67,15 +68,15 @@ fn note_roots(seen: &mut BTreeSet<u32>, atoms: &[Numbered]) -> bool
 /// Notes the symbols at which the atoms have cells. `true` only where none was there.
 fn note_cells(seen: &mut BTreeSet<u32>, apart: &[(Term, Term)], atoms: &[Numbered]) -> bool
     ensures own { OnTrue result ((later : List NumberedOf)
-        → AreApart (cell_place apart.now) (contains nat_cmp seen.new) later
-        → AreApart (cell_place apart.now) (contains nat_cmp seen.old) (atoms.now ++ later)) }
+        → AreApart (cell_places apart.now) (contains nat_cmp seen.new) later
+        → AreApart (cell_places apart.now) (contains nat_cmp seen.old) (atoms.now ++ later)) }
     ensures symbols { OnTrue result ((later : List NumberedOf) (n : ℕ)
-        → symbols_at (cell_place apart.now) (contains nat_cmp seen.new) later n
-        ≡ symbols_at (cell_place apart.now) (contains nat_cmp seen.old) (atoms.now ++ later) n) }
+        → symbols_at (cell_places apart.now) (contains nat_cmp seen.new) later n
+        ≡ symbols_at (cell_places apart.now) (contains nat_cmp seen.old) (atoms.now ++ later) n) }
 {
     let mut left = atoms;
     while let Some((first, rest)) = left.split_first() {
-        if !note(seen, cell_place(apart, first)) {
+        if !note_cell(seen, apart, first) {
             return false;
         }
         left = rest;
@@ -83,14 +84,28 @@ fn note_cells(seen: &mut BTreeSet<u32>, apart: &[(Term, Term)], atoms: &[Numbere
     true
 }
 
-/// Where the atom has its first cell; nil, which is no symbol, where it isn't known to have one.
-fn cell_place(apart: &[(Term, Term)], a: &Numbered) -> Term
-    ensures { result ≡ cell_place apart.now a.now }
+/// Notes the symbols at which the atom has cells, as far as that is known. `true` only where none
+/// was there.
+fn note_cell(seen: &mut BTreeSet<u32>, apart: &[(Term, Term)], a: &Numbered) -> bool
+    ensures new { OnTrue result (AreNew (contains nat_cmp seen.old) (cell_places apart.now a.now)) }
+    ensures noted { OnTrue result ((n : ℕ) → contains nat_cmp seen.new n
+        ≡ with_symbols (cell_places apart.now a.now) (contains nat_cmp seen.old) n) }
 {
     if has_cell(apart, &a.atom) {
-        a.atom.root()
+        note_atom(seen, &a.atom)
     } else {
-        Term::Nil
+        true
+    }
+}
+
+/// Notes the symbols at which the atom begins. `true` only where none was there.
+fn note_atom(seen: &mut BTreeSet<u32>, atom: &Atom) -> bool
+    ensures new { OnTrue result (AreNew (contains nat_cmp seen.old) (roots atom.now)) }
+    ensures noted { OnTrue result ((n : ℕ) → contains nat_cmp seen.new n
+        ≡ with_symbols (roots atom.now) (contains nat_cmp seen.old) n) }
+{
+    match atom {
+        Atom::Points(r, _) | Atom::Ls(r, _) | Atom::Tree(r) => note(seen, *r),
     }
 }
 
@@ -109,8 +124,8 @@ fn note(seen: &mut BTreeSet<u32>, t: Term) -> bool
     }
 }
 
-/// Whether the atom isn't forced: it begins at a symbol that isn't among those of cells, or has a
-/// cell there itself.
+/// Whether the atom isn't forced by its root: that is a symbol that isn't among those of cells, or
+/// the atom has a cell there itself.
 pub(crate) fn is_settled(cells: &BTreeSet<u32>, apart: &[(Term, Term)], atom: &Atom) -> bool
     ensures { result ≡ is_settled (contains nat_cmp cells.now) apart.now atom.now }
 {
@@ -120,29 +135,17 @@ pub(crate) fn is_settled(cells: &BTreeSet<u32>, apart: &[(Term, Term)], atom: &A
     }
 }
 
-/// The number and the ends of the first segment or tree at a constant whose ends aren't one term
-/// yet.
+/// The number of the first atom that is forced by its root, a constant, and the two terms that are
+/// the same then.
 pub(crate) fn first_at_constant(atoms: &[Numbered]) -> Option<(u32, Term, Term)>
     ensures { result ≡ first_at_constant atoms.now }
 {
     let mut left = atoms;
     while let Some((first, rest)) = left.split_first() {
-        if let Some((t, u)) = ends_at_constant(&first.atom) {
+        if let Some((t, u)) = first.atom.pair_at_constant() {
             return Some((first.number, t, u));
         }
         left = rest;
     }
     None
-}
-
-/// The ends of a segment or tree at a constant, where they aren't one term yet.
-fn ends_at_constant(atom: &Atom) -> Option<(Term, Term)>
-    ensures { result ≡ ends_at_constant atom.now }
-{
-    let (t, u) = atom.ends()?;
-    if !t.is(u) && t.is_constant() {
-        Some((t, u))
-    } else {
-        None
-    }
 }

@@ -19,7 +19,7 @@ use Rattle.sf_words.proofs.Sorts.{Tidy, plain-dashes, plain-long, plain-short, t
 use Rattle.sf_words.proofs.Walks.{Claims}
 use Rattle.sf_words.specs.Checked.Forms.{operands_id, program_form, silent, values_at}
 use Rattle.sf_words.specs.Checked.Found.{met_order, order_found}
-use Rattle.sf_words.specs.Words.{Given, Order, Text, begins_with_hyphen, dashes, demo_given, demo_of, given, is_among, is_blank, no_options, order_of, order_of_command, ranking_given, ranking_of, recheck_given, recheck_of, replay_given, replay_of, run_given, run_of, run_options, steps_of, values_of, verify_given, verify_of, verify_options, waits_of, workers_of}
+use Rattle.sf_words.specs.Words.{Given, Order, Text, begins_with_hyphen, dashes, demo_given, demo_of, given, is_among, is_blank, no_options, order_of, order_of_command, ranking_given, ranking_of, recheck_given, recheck_of, replay_given, replay_of, run_given, run_of, run_options, steps_of, values_of, verify_given, verify_of, verify_options, waits_of, witness_given, witness_of, workers_of}
 
 -- the program once it is built
 abbrev top : Shape
@@ -29,7 +29,8 @@ abbrev program : App
 program = record {
   top = top;
   subs = level (codes "verify") verify_options ∷ level (codes "recheck") no_options ∷ level (codes "run") run_options ∷ level (codes "demo") no_options
-      ∷ level (codes "order") no_options ∷ level (codes "replay") no_options ∷ [];
+      ∷ level (codes "order") no_options ∷ level (codes "replay") no_options
+      ∷ level (codes "witness") no_options ∷ [];
 }
 
 built-is : built program_form ≡ program
@@ -171,6 +172,13 @@ replay-agrees words t = command-agrees (codes "replay") no_options refl replay_g
     (entered-fault (codes "replay") (codes "replay") words refl refl ∙ or_else-nil (level_fault (level (codes "replay") no_options) [] nothing_held words false []))
     (entered-met (codes "replay") (codes "replay") words refl refl) refl t.full (tidy-rest (codes "replay") words refl t)
 
+witness-agrees : (words : List Text) → Tidy (codes "witness" ∷ words) → Agrees (codes "witness" ∷ words)
+unfolding walked defaults_fault
+witness-agrees words t = command-agrees (codes "witness") no_options refl witness_given words
+    (λ g rows fits. ap witness_of fits.0)
+    (entered-fault (codes "witness") (codes "witness") words refl refl ∙ or_else-nil (level_fault (level (codes "witness") no_options) [] nothing_held words false []))
+    (entered-met (codes "witness") (codes "witness") words refl refl) refl t.full (tidy-rest (codes "witness") words refl t)
+
 -- ---- another word
 
 cons-nil : (k : ErrorKind) (ks : Kinds) → k ∷ ks ≡ [] → ⊥
@@ -191,9 +199,10 @@ flag-fault x xs words = begin kind.UnknownArgument [] ((45 ∷ 45 ∷ x ∷ xs) 
 
 module _ (w : Text) (words : List Text) (no_verify : bytes_eq (codes "verify") w ≡ false) (no_recheck : bytes_eq (codes "recheck") w ≡ false)
     (no_run : bytes_eq (codes "run") w ≡ false) (no_demo : bytes_eq (codes "demo") w ≡ false)
-    (no_order : bytes_eq (codes "order") w ≡ false) (no_replay : bytes_eq (codes "replay") w ≡ false) where
+    (no_order : bytes_eq (codes "order") w ≡ false) (no_replay : bytes_eq (codes "replay") w ≡ false)
+    (no_witness : bytes_eq (codes "witness") w ≡ false) where
   word-turn : begins_with_hyphen w ≡ false → turn_fault top names start w ≡ kind.UnknownArgument ∷ kind.InvalidSubcommand ∷ []
-  word-turn e = rw (no_verify, no_recheck, no_run, no_demo, no_order, no_replay, plain-dashes w e, plain-long w e, plain-short w e) refl
+  word-turn e = rw (no_verify, no_recheck, no_run, no_demo, no_order, no_replay, no_witness, plain-dashes w e, plain-long w e, plain-short w e) refl
 
   word-fault : begins_with_hyphen w ≡ false → fault_of program_form (w ∷ words) ≡ [] → ⊥
   unfolding walk_fault
@@ -210,7 +219,7 @@ module _ (w : Text) (words : List Text) (no_verify : bytes_eq (codes "verify") w
   ]
 
   other-order : order_of_command w words ≡ None
-  other-order = rw (no_verify, no_recheck, no_run, no_demo, no_order, no_replay) refl
+  other-order = rw (no_verify, no_recheck, no_run, no_demo, no_order, no_replay, no_witness) refl
 
   other-agrees : Tidy (w ∷ words) → Agrees (w ∷ words)
   other-agrees t = record {
@@ -231,17 +240,20 @@ agrees [] t = nothing-agrees
 agrees (w ∷ words) t =
     go (bytes_eq (codes "verify") w) refl (bytes_eq (codes "recheck") w) refl (bytes_eq (codes "run") w) refl (bytes_eq (codes "demo") w) refl
     (bytes_eq (codes "order") w) refl (bytes_eq (codes "replay") w) refl
+    (bytes_eq (codes "witness") w) refl
   where
     named : (name : Text) → bytes_eq name w ≡ true → (Tidy (name ∷ words) → Agrees (name ∷ words)) → Agrees (w ∷ words)
     named name e h = subst (λ (x : Text). Tidy (x ∷ words) → Agrees (x ∷ words)) (bytes_eq-same name w e) h t
 
     go : (a : Bool) → bytes_eq (codes "verify") w ≡ a → (b : Bool) → bytes_eq (codes "recheck") w ≡ b → (d : Bool) → bytes_eq (codes "run") w ≡ d
         → (f : Bool) → bytes_eq (codes "demo") w ≡ f → (g : Bool) → bytes_eq (codes "order") w ≡ g
-        → (h : Bool) → bytes_eq (codes "replay") w ≡ h → Agrees (w ∷ words)
-    go true e b e₂ d e₃ f e₄ g e₅ h e₆ = named (codes "verify") e (verify-agrees words)
-    go false e true e₂ d e₃ f e₄ g e₅ h e₆ = named (codes "recheck") e₂ (recheck-agrees words)
-    go false e false e₂ true e₃ f e₄ g e₅ h e₆ = named (codes "run") e₃ (run-agrees words)
-    go false e false e₂ false e₃ true e₄ g e₅ h e₆ = named (codes "demo") e₄ (demo-agrees words)
-    go false e false e₂ false e₃ false e₄ true e₅ h e₆ = named (codes "order") e₅ (order-agrees words)
-    go false e false e₂ false e₃ false e₄ false e₅ true e₆ = named (codes "replay") e₆ (replay-agrees words)
-    go false e false e₂ false e₃ false e₄ false e₅ false e₆ = other-agrees w words e e₂ e₃ e₄ e₅ e₆ t
+        → (h : Bool) → bytes_eq (codes "replay") w ≡ h → (k : Bool) → bytes_eq (codes "witness") w ≡ k
+        → Agrees (w ∷ words)
+    go true e b e₂ d e₃ f e₄ g e₅ h e₆ k e₇ = named (codes "verify") e (verify-agrees words)
+    go false e true e₂ d e₃ f e₄ g e₅ h e₆ k e₇ = named (codes "recheck") e₂ (recheck-agrees words)
+    go false e false e₂ true e₃ f e₄ g e₅ h e₆ k e₇ = named (codes "run") e₃ (run-agrees words)
+    go false e false e₂ false e₃ true e₄ g e₅ h e₆ k e₇ = named (codes "demo") e₄ (demo-agrees words)
+    go false e false e₂ false e₃ false e₄ true e₅ h e₆ k e₇ = named (codes "order") e₅ (order-agrees words)
+    go false e false e₂ false e₃ false e₄ false e₅ true e₆ k e₇ = named (codes "replay") e₆ (replay-agrees words)
+    go false e false e₂ false e₃ false e₄ false e₅ false e₆ true e₇ = named (codes "witness") e₇ (witness-agrees words)
+    go false e false e₂ false e₃ false e₄ false e₅ false e₆ false e₇ = other-agrees w words e e₂ e₃ e₄ e₅ e₆ e₇ t

@@ -7,7 +7,7 @@ use Rattle.std.specs.Str.{bytes_eq}
 use Rattle.std.specs.Str.Parse.{digits_value}
 use Rattle.std.proofs.lemmas.Bool.Decides.{nat_tests}
 use Rattle.sf_base.specs.declared.limits.TheConstants.{DEFAULT_STEPS, DEFAULT_WAITS, DEMO, STEPS, WAITS, WORKERS}
-use Rattle.sf_words.specs.Words.{Given, HasNumbersInRange, Order, Text, chosen_of, demo, demo_given, demo_of, given, is_blank, is_numeral, no_options, number_of, order_of, order_of_command, ranking_given, ranking_of, recheck_given, recheck_of, replay_given, replay_of, run_given, run_of, run_options, steps_of, values_of, verify_given, verify_of, verify_options, waits_of, workers_of}
+use Rattle.sf_words.specs.Words.{Given, HasNumbersInRange, Order, Text, chosen_of, demo, demo_given, demo_of, given, is_blank, is_numeral, no_options, number_of, order_of, order_of_command, ranking_given, ranking_of, recheck_given, recheck_of, replay_given, replay_of, run_given, run_of, run_options, steps_of, values_of, verify_given, verify_of, verify_options, waits_of, witness_given, witness_of, workers_of}
 use Rattle.sf_words.specs.WordsOf.{order_as}
 use Rattle.sf_words.specs.declared.order.Order.{Order as CodeOrder}
 use Rattle.sf_words.specs.declared.order.WordFault.{WordFault}
@@ -90,6 +90,11 @@ range-replay (file ∷ entry ∷ state ∷ []) = tt
 range-replay (file ∷ entry ∷ state ∷ schedule ∷ []) = tt
 range-replay (file ∷ entry ∷ state ∷ schedule ∷ other ∷ more) = tt
 
+range-witness : (operands : List Text) → IsRanged (witness_of operands)
+range-witness [] = tt
+range-witness (file ∷ []) = tt
+range-witness (file ∷ other ∷ more) = tt
+
 range-then : (f : Given → Option Order) (o : Option Given) → ((g : Given) → IsRanged (f g))
     → IsRanged (option_and_then f o)
 range-then f None h = tt
@@ -114,7 +119,9 @@ range-command command words =
     (range-either IsRanged (bytes_eq (codes "order") command) _ _
     (range-then ranking_given (given no_options None words) (λ g. range-ranking g.operands))
     (range-either IsRanged (bytes_eq (codes "replay") command) _ _
-    (range-then replay_given (given no_options None words) (λ g. range-replay g.operands)) tt)))))
+    (range-then replay_given (given no_options None words) (λ g. range-replay g.operands))
+    (range-either IsRanged (bytes_eq (codes "witness") command) _ _
+    (range-then witness_given (given no_options None words) (λ g. range-witness g.operands)) tt))))))
 
 range-order : (words : List Text) → IsRanged (order_of words)
 range-order [] = tt

@@ -10,7 +10,7 @@ use Rattle.std.proofs.lemmas.List.{length-append}
 use Rattle.std.proofs.lemmas.List.Folds.{list_all-append}
 use Rattle.sf_base.specs.declared.limits.TheConstants.{DEMO, STEPS, WAITS, WORKERS}
 use Rattle.sf_words.specs.Checked.Laws.{EachOrderIsSpelled}
-use Rattle.sf_words.specs.Words.{Text, dashes, demo, is_blank, number_of, order_of, ranking, recheck, replay, run, run_of, verify}
+use Rattle.sf_words.specs.Words.{Text, dashes, demo, is_blank, number_of, order_of, ranking, recheck, replay, run, run_of, verify, witness}
 
 -- ---- a numeral for each number
 
@@ -88,6 +88,10 @@ spelled-replay file entry state schedule e f g h =
     ap₂ (λ (a b : Bool). cond (a || (b || (is_blank state || (is_blank schedule || false)))) None (Some (replay file entry state schedule))) e f
     ∙ ap₂ (λ (a b : Bool). cond (a || (b || false)) None (Some (replay file entry state schedule))) g h
 
+spelled-witness : (file : Text) → is_blank file ≡ false
+    → order_of (codes "witness" ∷ dashes ∷ file ∷ []) ≡ Some (witness file)
+spelled-witness file e = ap (λ (a : Bool). cond (a || false) None (Some (witness file))) e
+
 pub each_order_is_spelled : EachOrderIsSpelled
 each_order_is_spelled (verify file k) m =
     let t = numeral 15 k (omega (arith, m.1.1)) in
@@ -105,3 +109,4 @@ each_order_is_spelled (demo n) m =
 each_order_is_spelled (ranking file) m = (codes "order" ∷ dashes ∷ file ∷ [], spelled-ranking file m.0)
 each_order_is_spelled (replay file entry state schedule) m =
     (codes "replay" ∷ dashes ∷ file ∷ entry ∷ state ∷ schedule ∷ [], spelled-replay file entry state schedule m.0.0 m.0.1 m.0.2 m.0.3)
+each_order_is_spelled (witness file) m = (codes "witness" ∷ dashes ∷ file ∷ [], spelled-witness file m.0)

@@ -21,6 +21,7 @@ pub data Order : Type 0 where
   demo : (procedures : ℕ) → Order
   ranking : (file : Text) → Order
   replay : (file entry state schedule : Text) → Order
+  witness : (file : Text) → Order
 
 -- the numbers of an order are from 1 to their limits
 abbrev pub HasNumbersInRange : Order → Type 0
@@ -31,6 +32,7 @@ HasNumbersInRange (run file entry state steps waits) =
 HasNumbersInRange (demo procedures) = (1 ≤ procedures) × (procedures ≤ DEMO)
 HasNumbersInRange (ranking file) = Unit {0}
 HasNumbersInRange (replay file entry state schedule) = Unit {0}
+HasNumbersInRange (witness file) = Unit {0}
 
 -- ---- single words
 
@@ -186,6 +188,11 @@ abbrev pub replay_of : (operands : List Text) → Option Order
 replay_of (file ∷ entry ∷ state ∷ schedule ∷ []) = Some (replay file entry state schedule)
 replay_of _ = None
 
+-- `witness FILE`
+abbrev pub witness_of : (operands : List Text) → Option Order
+witness_of (file ∷ []) = Some (witness file)
+witness_of _ = None
+
 -- the options of `verify`, of `run`, and of the others
 abbrev pub verify_options : List Text
 verify_options = codes "workers" ∷ []
@@ -226,6 +233,9 @@ ranking_given g = ranking_of g.operands
 abbrev pub replay_given : Given → Option Order
 replay_given g = replay_of g.operands
 
+abbrev pub witness_given : Given → Option Order
+witness_given g = witness_of g.operands
+
 -- the order of a command's word and the words behind it
 abbrev pub order_of_command : Text → List Text → Option Order
 order_of_command command words =
@@ -240,7 +250,9 @@ order_of_command command words =
     else (if bytes_eq (codes "order") command
     then option_and_then ranking_given (given no_options None words)
     else (if bytes_eq (codes "replay") command
-    then option_and_then replay_given (given no_options None words) else None)))))
+    then option_and_then replay_given (given no_options None words)
+    else (if bytes_eq (codes "witness") command
+    then option_and_then witness_given (given no_options None words) else None))))))
 
 -- the order that the words are, if they are one: the first is the command's, and no word is blank
 abbrev pub order_of : List Text → Option Order

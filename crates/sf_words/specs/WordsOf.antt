@@ -3,8 +3,8 @@
 use Rattle.std.specs.Prelude.{Option, Some, None, List, map}
 use Rattle.std.specs.Borrow.{Bor}
 use Rattle.sf_words.specs.declared.order.Order.{Order as CodeOrder}
-use Rattle.sf_words.specs.declared.order.Order.TheVariants.{Verify, Recheck, Run, Demo, Ranking, Replay}
-use Rattle.sf_words.specs.Words.{Text, Order, verify, recheck, run, demo, ranking, replay}
+use Rattle.sf_words.specs.declared.order.Order.TheVariants.{Verify, Recheck, Run, Demo, Ranking, Replay, Witness}
+use Rattle.sf_words.specs.Words.{Text, Order, verify, recheck, run, demo, ranking, replay, witness}
 
 -- the words
 abbrev pub words_of : List (Bor Text) → List Text
@@ -18,6 +18,7 @@ order_as (Run file entry state steps waits) = run file.now entry.now state.now s
 order_as (Demo procedures) = demo procedures
 order_as (Ranking file) = ranking file.now
 order_as (Replay file entry state schedule) = replay file.now entry.now state.now schedule.now
+order_as (Witness file) = witness file.now
 
 -- an order of the code, if there is one
 abbrev pub order_in : Option CodeOrder → Option Order

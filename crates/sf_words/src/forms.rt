@@ -65,11 +65,13 @@ pub(crate) fn program<'a>(alloc: Global) -> Result<Command<'a>, AllocError>
     let demo = bare(alloc, "demo")?;
     let order = bare(alloc, "order")?;
     let replay = bare(alloc, "replay")?;
+    let witness = bare(alloc, "witness")?;
     let one = program.subcommand(verify)?;
     let two = one.subcommand(recheck)?;
     let three = two.subcommand(run)?;
     let four = three.subcommand(demo)?;
     let five = four.subcommand(order)?;
-    let all = five.subcommand(replay)?;
+    let six = five.subcommand(replay)?;
+    let all = six.subcommand(witness)?;
     Ok(all)
 }

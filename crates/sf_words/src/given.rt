@@ -1,7 +1,7 @@
 ghost use Rattle.std.specs.Prelude.{◌≡◌};
 ghost use Rattle.clap.specs.Words.{found_of, rows_of};
 ghost use Rattle.sf_words.specs.Checked.Found.{order_found, texts_under};
-ghost use Rattle.sf_words.specs.Words.{demo_of, ranking_of, recheck_of, replay_of, run_of, steps_of, verify_of, waits_of, workers_of};
+ghost use Rattle.sf_words.specs.Words.{demo_of, ranking_of, recheck_of, replay_of, run_of, steps_of, verify_of, waits_of, witness_of, workers_of};
 ghost use Rattle.sf_words.specs.WordsOf.{order_in};
 
 use crate::forms::OPERANDS;
@@ -100,6 +100,16 @@ fn replay<'a>(operands: Option<&[&'a str]>) -> Option<Order<'a>>
     }
 }
 
+/// `witness FILE`, by the operands.
+fn witness<'a>(operands: Option<&[&'a str]>) -> Option<Order<'a>>
+    ensures { order_in result ≡ witness_of (texts_under operands.entry) }
+{
+    match operands {
+        Some([file]) => Some(Order::Witness { file }),
+        _ => None,
+    }
+}
+
 /// The order of a command's name and of what stands under its operands and options. `None` exactly
 /// where there are too few or too many of them, or one is no number of its range.
 pub(crate) fn order<'a>(name: &str, matches: &ArgMatches<'a>) -> Option<Order<'a>>
@@ -117,6 +127,7 @@ pub(crate) fn order<'a>(name: &str, matches: &ArgMatches<'a>) -> Option<Order<'a
         "demo" => demo(operands),
         "order" => ranking(operands),
         "replay" => replay(operands),
+        "witness" => witness(operands),
         _ => None,
     }
 }

@@ -52,6 +52,11 @@ pub enum Order<'a> {
         /// The name of the schedule's file.
         schedule: &'a str,
     },
+    /// Show a concrete state of a file's failed obligation.
+    Witness {
+        /// The file's name.
+        file: &'a str,
+    },
 }
 
 /// Why words were not read.

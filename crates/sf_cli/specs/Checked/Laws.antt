@@ -7,7 +7,7 @@ use Rattle.sf_io.specs.Shelf.{Files}
 use Rattle.sf_rules.specs.Proving.{Proves}
 use Rattle.sf_rules.specs.Setting.{IsSettingOf, Setting}
 use Rattle.sf_sym.specs.declared.tag.Tag.{Tag}
-use Rattle.sf_cli.specs.Answer.{AcceptedBytes, Answer, DemoAnswer, EndedRun, FileAnswer, Names, OrderAnswer, RunAnswer, RankingFileAnswer}
+use Rattle.sf_cli.specs.Answer.{AcceptedBytes, Answer, DemoAnswer, EndedRun, FileAnswer, Names, OrderAnswer, RunAnswer, RankingFileAnswer, WitnessFileAnswer}
 use Rattle.sf_cli.specs.Replayed.{EnteredAnswer, ReplayAnswer}
 use Rattle.sf_cli.specs.SoundFile.{IsAccepting}
 use Rattle.sf_cli.specs.FileFault.{Admits, FileFault}
@@ -83,6 +83,16 @@ EachRankingHasOneAnswer =
 -- it has an answer
 abbrev pub EachRankingHasAnAnswer : Type 0
 EachRankingHasAnAnswer = (bytes : Text) → (text : Text) × (status : ℕ) × RankingFileAnswer bytes text status
+
+-- a file of which a witness is asked for has at most one answer
+abbrev pub EachWitnessHasOneAnswer : Type 0
+EachWitnessHasOneAnswer =
+    (bytes text other : Text) (status code : ℕ) → WitnessFileAnswer bytes text status
+    → WitnessFileAnswer bytes other code → (text ≡ other) × (status ≡ code)
+
+-- it has an answer
+abbrev pub EachWitnessHasAnAnswer : Type 0
+EachWitnessHasAnAnswer = (bytes : Text) → (text : Text) × (status : ℕ) × WitnessFileAnswer bytes text status
 
 -- a replay of a file's program has at most one answer over the same files
 abbrev pub EachReplayHasOneAnswer : Type 0

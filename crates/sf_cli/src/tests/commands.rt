@@ -67,101 +67,36 @@ pub const RECHECKS: [(&[&str], &str, &str, u8); 19] = [
     ),
     (
         &["recheck", "tree.sf", "given"],
-        "accepted
-procedure disp_tree
-add
-split s0 nil
-drop 1
-then
-return
-end
-else
-unroll 1
-look 2
-look 2
-fork
-exact 3
-exact 4
-give
-dispose 2
-return
+        "accepted; procedure disp_tree
+add; split s0 nil; drop 1; then; return; end; else; unroll 1; look 2; look 2; fork; exact 3
+exact 4; give; dispose 2; return
 ",
         "proof refused: line 19 kind 61\n",
         4,
     ),
     (
         &["recheck", "tree.sf", "given"],
-        "accepted
-procedure disp_tree
-add
-split s0 nil
-drop 1
-drop 1
-then
-return
-end
-else
-unroll 1
-look 2
-look 2
-fork
-exact 3
-exact 4
-give
-dispose 2
-return
-end
+        "accepted; procedure disp_tree
+add; split s0 nil; drop 1; drop 1; then; return; end; else; unroll 1; look 2; look 2; fork
+exact 3; exact 4; give; dispose 2; return; end
 ",
         "proof refused: line 6 kind 60\n",
         4,
     ),
     (
         &["recheck", "tree.sf", "given"],
-        "accepted
-procedure disp_tree
-add
-split s0 nil
-drop 1
-then
-return
-end
-else
-unroll 1
-look 2
-look 2
-fork
-exact 3
-exact 4
-give
-dispose 2
-return
-end
-end
+        "accepted; procedure disp_tree
+add; split s0 nil; drop 1; then; return; end; else; unroll 1; look 2; look 2; fork; exact 3
+exact 4; give; dispose 2; return; end; end
 ",
         "proof refused: line 20 kind 62\n",
         4,
     ),
     (
         &["recheck", "tree.sf", "given"],
-        "accepted
-procedure disp_tree
-add
-spilt s0 nil
-drop 1
-then
-return
-end
-else
-unroll 1
-look 2
-look 2
-fork
-exact 3
-exact 4
-give
-dispose 2
-return
-end
+        "accepted; procedure disp_tree
+add; spilt s0 nil; drop 1; then; return; end; else; unroll 1; look 2; look 2; fork; exact 3
+exact 4; give; dispose 2; return; end
 ",
         "proof refused: line 4 kind 50\n",
         4,
@@ -180,69 +115,18 @@ end
     ),
     (
         &["recheck", "rev.sf", "given"],
-        "accepted
-procedure rev
-add
-assign
-assign
-loop
-empty
-exact 1
-around
-add
-add
-add
-unroll 3
-look 4
-mutate 4
-assign
-assign
-again
-head 4
-exact 2
-exact 5
-end
-add
-add
-add
-drop 3
-return
-exact 2
+        "accepted; procedure rev
+add; assign; assign; loop; empty; exact 1; around; add; add; add; unroll 3; look 4; mutate 4
+assign; assign; again; head 4; exact 2; exact 5; end; add; add; add; drop 3; return; exact 2
 ",
         "proof refused: line 29 kind 61\n",
         4,
     ),
     (
         &["recheck", "rev.sf", "given"],
-        "accepted
-procedure rev
-add
-assign
-assign
-loop
-empty
-exact 1
-around
-add
-add
-add
-unroll 3
-look 4
-mutate 4
-assign
-assign
-again
-head 4
-exact 2
-exact 5
-end
-add
-add
-add
-drop 3
-return
-exact 2
-end
+        "accepted; procedure rev
+add; assign; assign; loop; empty; exact 1; around; add; add; add; unroll 3; look 4; mutate 4
+assign; assign; again; head 4; exact 2; exact 5; end; add; add; add; drop 3; return; exact 2; end
 end
 ",
         "proof refused: line 30 kind 62\n",
@@ -251,83 +135,22 @@ end
     (&["recheck", "mm.sf", "given"], mm::PROOF, "accepted\n", 0),
     (
         &["recheck", "mm.sf", "given"],
-        "accepted
-procedure alloc
-enter
-add
-split s1 nil
-drop 1
-then
-new
-exit
-exact 2
-give
-return
-cell 2
-end
-else
-assign
-unroll 1
-look 2
-exit
-exact 3
-give
-return
-cell 2
-end
+        "accepted; procedure alloc
+enter; add; split s1 nil; drop 1; then; new; exit; exact 2; give; return; cell 2; end; else
+assign; unroll 1; look 2; exit; exact 3; give; return; cell 2; end
 procedure dealloc
-add
-enter
-add
-mutate 1
-assign
-exit
-head 1
-exact 2
-give
-return
-end
+add; enter; add; mutate 1; assign; exit; head 1; exact 2; give; return; end
 ",
         "proof refused: line 10 kind 60\n",
         4,
     ),
     (
         &["recheck", "mm.sf", "given"],
-        "accepted
-procedure alloc
-enter
-add
-split s1 nil
-drop 1
-then
-new
-exit
-empty
-give
-return
-cell 2
-end
-else
-assign
-unroll 1
-look 2
-exit
-exact 3
-give
-return
-cell 2
-end
+        "accepted; procedure alloc
+enter; add; split s1 nil; drop 1; then; new; exit; empty; give; return; cell 2; end; else; assign
+unroll 1; look 2; exit; exact 3; give; return; cell 2; end
 procedure dealloc
-add
-enter
-add
-mutate 1
-assign
-exit
-head 1
-exact 2
-give
-return
+add; enter; add; mutate 1; assign; exit; head 1; exact 2; give; return
 ",
         "proof refused: line 36 kind 61\n",
         4,
@@ -340,51 +163,14 @@ return
     ),
     (
         &["recheck", "buf.sf", "given"],
-        "accepted
-procedure put
-add
-enter
-split s2 0
-then
-add
-assign
-assign
-exit
-else
-cell 1
-give
-return
-end
-else
-add
-add
-absurd
+        "accepted; procedure put
+add; enter; split s2 0; then; add; assign; assign; exit; else; cell 1; give; return; end; else
+add; add; absurd
 procedure main
-enter
-split s2 0
-then
-add
-absurd
-else
-add
-add
-assign
-assign
-exit
-then
-give
-return
-cell 1
-end
+enter; split s2 0; then; add; absurd; else; add; add; assign; assign; exit; then; give; return
+cell 1; end
 procedure main
-new
-fork
-cell 1
-give
-add
-dispose 2
-return
-end
+new; fork; cell 1; give; add; dispose 2; return; end
 ",
         "proof refused: line 20 kind 60\n",
         4,

@@ -14,18 +14,8 @@ pub const EXAMPLES: [(&[u8], &str); 18] = [
   y->hd = x;
 } [x|->tl:x,hd:y * y|->hd:x]
 ",
-        "accepted
-procedure swap
-add
-add
-mutate 1
-mutate 2
-mutate 1
-mutate 2
-return
-cell 1
-cell 2
-end
+        "accepted; procedure swap
+add; add; mutate 1; mutate 2; mutate 1; mutate 2; return; cell 1; cell 2; end
 ",
     ),
     (
@@ -55,35 +45,9 @@ reverse(turned; rest) [list(rest)] {
   }
 } [list(turned)]
 ",
-        "accepted
-procedure reverse
-add
-assign
-assign
-loop
-exact 1
-empty
-around
-add
-add
-add
-unroll 2
-look 4
-mutate 4
-assign
-assign
-again
-exact 5
-head 4
-exact 3
-end
-add
-add
-add
-drop 2
-return
-exact 3
-end
+        "accepted; procedure reverse
+add; assign; assign; loop; exact 1; empty; around; add; add; add; unroll 2; look 4; mutate 4
+assign; assign; again; exact 5; head 4; exact 3; end; add; add; add; drop 2; return; exact 3; end
 ",
     ),
     (
@@ -103,58 +67,11 @@ append(first; more) [list(first) * list(more)] {
   }
 } [list(first)]
 ",
-        "accepted
-procedure append
-add
-add
-split s0 nil
-drop 1
-then
-assign
-return
-exact 2
-end
-else
-assign
-unroll 1
-look 3
-loop
-empty
-cell 3
-exact 4
-exact 2
-around
-add
-add
-add
-add
-add
-assign
-unroll 7
-look 9
-again
-split s0 s4
-force 5
-absurd
-join 5
-head 6
-empty
-cell 9
-exact 10
-exact 8
-end
-add
-add
-add
-add
-add
-drop 7
-mutate 6
-return
-join 5
-head 6
-exact 8
-end
+        "accepted; procedure append
+add; add; split s0 nil; drop 1; then; assign; return; exact 2; end; else; assign; unroll 1; look 3
+loop; empty; cell 3; exact 4; exact 2; around; add; add; add; add; add; assign; unroll 7; look 9
+again; split s0 s4; force 5; absurd; join 5; head 6; empty; cell 9; exact 10; exact 8; end; add
+add; add; add; add; drop 7; mutate 6; return; join 5; head 6; exact 8; end
 ",
     ),
     (
@@ -193,39 +110,10 @@ rotate(root;) [tree(root)] {
   }
 } [tree(root)]
 ",
-        "accepted
-procedure rotate
-add
-split s0 nil
-drop 1
-else
-return
-empty
-end
-then
-unroll 1
-look 2
-split s1 nil
-drop 3
-else
-return
-node 2
-empty
-exact 4
-end
-then
-unroll 3
-look 5
-mutate 2
-mutate 5
-assign
-return
-node 5
-exact 6
-node 2
-exact 7
-exact 4
-end
+        "accepted; procedure rotate
+add; split s0 nil; drop 1; else; return; empty; end; then; unroll 1; look 2; split s1 nil; drop 3
+else; return; node 2; empty; exact 4; end; then; unroll 3; look 5; mutate 2; mutate 5; assign
+return; node 5; exact 6; node 2; exact 7; exact 4; end
 ",
     ),
     (
@@ -241,27 +129,9 @@ fell(root) [tree(root)] {
   }
 }
 ",
-        "accepted
-procedure fell
-add
-split s0 nil
-drop 1
-else
-return
-end
-then
-unroll 1
-look 2
-look 2
-call
-exact 3
-give
-call
-exact 4
-give
-dispose 2
-return
-end
+        "accepted; procedure fell
+add; split s0 nil; drop 1; else; return; end; then; unroll 1; look 2; look 2; call; exact 3; give
+call; exact 4; give; dispose 2; return; end
 ",
     ),
     (
@@ -284,47 +154,12 @@ skip(at;) [list(at)] {
   }
 } [list(at)]
 ",
-        "accepted
-procedure keep
-add
-split s0 nil
-drop 1
-else
-return
-empty
-end
-then
-unroll 1
-look 2
-call
-exact 3
-give
-add
-mutate 2
-return
-head 2
-exact 4
-end
+        "accepted; procedure keep
+add; split s0 nil; drop 1; else; return; empty; end; then; unroll 1; look 2; call; exact 3; give
+add; mutate 2; return; head 2; exact 4; end
 procedure skip
-add
-split s0 nil
-drop 1
-else
-return
-empty
-end
-then
-assign
-unroll 1
-look 2
-dispose 2
-call
-exact 3
-give
-add
-return
-exact 4
-end
+add; split s0 nil; drop 1; else; return; empty; end; then; assign; unroll 1; look 2; dispose 2
+call; exact 3; give; add; return; exact 4; end
 ",
     ),
     (
@@ -344,42 +179,11 @@ put_back(cell) [cell|->] {
   with pool when (true) { cell->tl = spare; spare = cell; }
 }
 ",
-        "accepted
-procedure obtain
-enter
-add
-split s1 nil
-drop 1
-then
-new
-exit
-empty
-give
-return
-cell 2
-end
-else
-assign
-unroll 1
-look 2
-exit
-exact 3
-give
-return
-cell 2
-end
+        "accepted; procedure obtain
+enter; add; split s1 nil; drop 1; then; new; exit; empty; give; return; cell 2; end; else; assign
+unroll 1; look 2; exit; exact 3; give; return; cell 2; end
 procedure put_back
-add
-enter
-add
-mutate 1
-assign
-exit
-head 1
-exact 2
-give
-return
-end
+add; enter; add; mutate 1; assign; exit; head 1; exact 2; give; return; end
 ",
     ),
     (
@@ -395,62 +199,18 @@ producer() { local cell; cell = new(); cell->hd = 7; send(cell); }
 consumer() { local cell; receive(cell;); dispose(cell); }
 both() { producer() || consumer(); }
 ",
-        "accepted
-procedure send
-add
-enter
-split s2 1
-then
-add
-add
-absurd
-else
-add
-assign
-assign
-exit
-then
-cell 1
-give
-return
-end
+        "accepted; procedure send
+add; enter; split s2 1; then; add; add; absurd; else; add; assign; assign; exit; then; cell 1
+give; return; end
 procedure receive
-enter
-split s2 1
-then
-add
-add
-assign
-assign
-exit
-else
-give
-return
-cell 1
-end
-else
-add
-absurd
+enter; split s2 1; then; add; add; assign; assign; exit; else; give; return; cell 1; end; else
+add; absurd
 procedure producer
-new
-mutate 1
-call
-cell 1
-give
-return
-end
+new; mutate 1; call; cell 1; give; return; end
 procedure consumer
-call
-give
-add
-dispose 1
-return
-end
+call; give; add; dispose 1; return; end
 procedure both
-fork
-give
-return
-end
+fork; give; return; end
 ",
     ),
     (
@@ -471,45 +231,12 @@ worker() {
 }
 both() { worker() || worker(); }
 ",
-        "accepted
-procedure worker
-enter
-add
-assign
-split s0 nil
-drop 1
-else
-exit
-empty
-give
-else
-return
-end
-then
-unroll 1
-look 2
-exit
-exact 3
-give
-then
-mutate 2
-enter
-add
-mutate 2
-assign
-exit
-head 2
-exact 4
-give
-call
-give
-return
-end
+        "accepted; procedure worker
+enter; add; assign; split s0 nil; drop 1; else; exit; empty; give; else; return; end; then
+unroll 1; look 2; exit; exact 3; give; then; mutate 2; enter; add; mutate 2; assign; exit; head 2
+exact 4; give; call; give; return; end
 procedure both
-fork
-give
-return
-end
+fork; give; return; end
 ",
     ),
     (
@@ -524,25 +251,9 @@ fell(root) [tree(root)] {
   }
 }
 ",
-        "accepted
-procedure fell
-add
-split s0 nil
-drop 1
-else
-return
-end
-then
-unroll 1
-look 2
-look 2
-fork
-exact 3
-exact 4
-give
-dispose 2
-return
-end
+        "accepted; procedure fell
+add; split s0 nil; drop 1; else; return; end; then; unroll 1; look 2; look 2; fork; exact 3
+exact 4; give; dispose 2; return; end
 ",
     ),
     (
@@ -606,32 +317,12 @@ count() [emp] {
 
 main() { sell() || count(); }
 ",
-        "accepted
-procedure sell
-enter
-enter
-assign
-exit
-give
-exit
-give
-return
-end
+        "accepted; procedure sell
+enter; enter; assign; exit; give; exit; give; return; end
 procedure count
-enter
-enter
-assign
-exit
-give
-exit
-give
-return
-end
+enter; enter; assign; exit; give; exit; give; return; end
 procedure main
-fork
-give
-return
-end
+fork; give; return; end
 ",
     ),
 ];

@@ -4,36 +4,19 @@
 pub const CALL_PROOFS: [(&[u8], &str, &str); 2] = [
     (
         b"f(x) [x|->] { dispose(x); }\ng(x) [x|->] { f(x); }\n",
-        "accepted
-procedure f
-add
-dispose 1
-return
-end
+        "accepted; procedure f
+add; dispose 1; return; end
 procedure g
-add
-call
-cell 1
-give
-return
-end
+add; call; cell 1; give; return; end
 ",
         "accepted\n",
     ),
     (
         b"f(x) [x|->] { dispose(x); }\ng(x) [x|->] { f(x); }\n",
-        "accepted
-procedure f
-add
-dispose 1
-return
-end
+        "accepted; procedure f
+add; dispose 1; return; end
 procedure g
-add
-call
-give
-return
-end
+add; call; give; return; end
 ",
         "proof refused: line 10 kind 60\n",
     ),
@@ -135,20 +118,8 @@ pub const TEXTS: [(&[u8], &str, &str); 19] = [
 pub const ACCEPTED: [(&[u8], &str, &str); 14] = [
     (
         b"f(x,y) [ls(x,y) * list(y)] { } [list(x)]\n",
-        "accepted
-procedure f
-add
-add
-return
-split s0 nil
-force 1
-drop 1
-drop 2
-empty
-end
-join 1
-exact 2
-end
+        "accepted; procedure f
+add; add; return; split s0 nil; force 1; drop 1; drop 2; empty; end; join 1; exact 2; end
 ",
         "accepted\n",
     ),
@@ -164,19 +135,8 @@ end
     ),
     (
         b"f(x) [list(x)] { } [if x == nil then emp else x|->tl:_y * list(_y)]\n",
-        "accepted
-procedure f
-add
-return
-split s0 nil
-drop 1
-then
-end
-else
-unroll 1
-cell 2
-exact 3
-end
+        "accepted; procedure f
+add; return; split s0 nil; drop 1; then; end; else; unroll 1; cell 2; exact 3; end
 ",
         "accepted\n",
     ),
@@ -218,73 +178,19 @@ end
     (
         b"f(x,y) [x != nil * list(x) * list(y)] { } [list(x) * (if x == y then emp else list(y))]
 ",
-        "accepted
-procedure f
-add
-add
-add
-return
-exact 1
-split s0 s1
-absurd
-else
-exact 2
-end
+        "accepted; procedure f
+add; add; add; return; exact 1; split s0 s1; absurd; else; exact 2; end
 ",
         "accepted\n",
     ),
     (
         b"f(x,y) [list(x)] { local t; t = x; while (t != nil) [ls(x,t) * list(t)] { if (x == t) { } else { } t = t->tl; } } [list(x)]
 ",
-        "accepted
-procedure f
-add
-assign
-loop
-empty
-exact 1
-around
-add
-add
-add
-split s0 s2
-drop 2
-then
-unroll 3
-look 4
-again
-split s0 s3
-absurd
-head 4
-empty
-exact 5
-end
-else
-unroll 3
-look 4
-again
-split s0 s3
-force 5
-absurd
-split s3 nil
-drop 5
-join 2
-head 4
-empty
-empty
-end
-join 2
-head 4
-empty
-exact 5
-end
-add
-add
-add
-drop 3
-return
-exact 2
-end
+        "accepted; procedure f
+add; assign; loop; empty; exact 1; around; add; add; add; split s0 s2; drop 2; then; unroll 3
+look 4; again; split s0 s3; absurd; head 4; empty; exact 5; end; else; unroll 3; look 4; again
+split s0 s3; force 5; absurd; split s3 nil; drop 5; join 2; head 4; empty; empty; end; join 2
+head 4; empty; exact 5; end; add; add; add; drop 3; return; exact 2; end
 ",
         "accepted\n",
     ),

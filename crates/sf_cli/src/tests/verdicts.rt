@@ -4,50 +4,20 @@
 pub const LISTS: [(&[u8], &str); 6] = [
     (
         b"push(x; v) [list(x)] { local n; n = new(); n->hd = v; n->tl = x; x = n; } [list(x)]",
-        "accepted
-procedure push
-add
-new
-mutate 2
-mutate 2
-assign
-return
-head 2
-exact 1
-end
+        "accepted; procedure push
+add; new; mutate 2; mutate 2; assign; return; head 2; exact 1; end
 ",
     ),
     (
         b"pop(x;) [x != nil * list(x)] { local n; n = x; x = n->tl; dispose n; } [list(x)]",
-        "accepted
-procedure pop
-add
-add
-assign
-unroll 1
-look 2
-dispose 2
-return
-exact 3
-end
+        "accepted; procedure pop
+add; add; assign; unroll 1; look 2; dispose 2; return; exact 3; end
 ",
     ),
     (
         b"chain(x, y) [ls(x,y) * list(y)] { } [list(x)]",
-        "accepted
-procedure chain
-add
-add
-return
-split s0 nil
-force 1
-drop 1
-drop 2
-empty
-end
-join 1
-exact 2
-end
+        "accepted; procedure chain
+add; add; return; split s0 nil; force 1; drop 1; drop 2; empty; end; join 1; exact 2; end
 ",
     ),
     (
@@ -62,23 +32,9 @@ want ls(s0,s2)
     ),
     (
         b"chain(x, y, z) [ls(x,y) * ls(y,z) * z|->] { } [ls(x,z) * z|->]",
-        "accepted
-procedure chain
-add
-add
-add
-return
-split s0 s2
-force 1
-drop 1
-drop 2
-empty
-cell 3
-end
-join 1
-exact 2
-cell 3
-end
+        "accepted; procedure chain
+add; add; add; return; split s0 s2; force 1; drop 1; drop 2; empty; cell 3; end; join 1; exact 2
+cell 3; end
 ",
     ),
     (
@@ -101,34 +57,9 @@ pub const TREES: [(&[u8], &str); 4] = [
     ),
     (
         b"mirror(p) [tree(p)] { local i, j; if (p != nil) { i = p->l; j = p->r; mirror(i); mirror(j); p->l = j; p->r = i; } } [tree(p)]",
-        "accepted
-procedure mirror
-add
-split s0 nil
-drop 1
-else
-return
-empty
-end
-then
-unroll 1
-look 2
-look 2
-call
-exact 3
-give
-add
-call
-exact 4
-give
-add
-mutate 2
-mutate 2
-return
-node 2
-exact 6
-exact 5
-end
+        "accepted; procedure mirror
+add; split s0 nil; drop 1; else; return; empty; end; then; unroll 1; look 2; look 2; call; exact 3
+give; add; call; exact 4; give; add; mutate 2; mutate 2; return; node 2; exact 6; exact 5; end
 ",
     ),
     (
@@ -157,90 +88,28 @@ want emp
 pub const LOOPS: [(&[u8], &str); 5] = [
     (
         b"resource r (v) [list(v)] f() { while (true) { with r when (true) { if (v == nil) v = nil; } } }",
-        "accepted
-procedure f
-loop
-around
-enter
-add
-split s0 nil
-drop 1
-then
-assign
-exit
-empty
-give
-again
-end
-else
-exit
-exact 1
-give
-again
-end
-add
-absurd
+        "accepted; procedure f
+loop; around; enter; add; split s0 nil; drop 1; then; assign; exit; empty; give; again; end; else
+exit; exact 1; give; again; end; add; absurd
 ",
     ),
     (
         b"drain(x) [list(x)] { local t; while (x != nil) [list(x)] { t = x; x = t->tl; dispose(t); } }",
-        "accepted
-procedure drain
-add
-assign
-loop
-exact 1
-around
-add
-add
-assign
-unroll 2
-look 3
-dispose 3
-again
-exact 4
-end
-add
-add
-drop 2
-return
-end
+        "accepted; procedure drain
+add; assign; loop; exact 1; around; add; add; assign; unroll 2; look 3; dispose 3; again; exact 4
+end; add; add; drop 2; return; end
 ",
     ),
     (
         b"forgets(x) [list(x)] { while (x != nil) { x = nil; } } [list(x)]",
-        "accepted
-procedure forgets
-add
-assign
-loop
-around
-add
-assign
-again
-end
-add
-return
-exact 1
-end
+        "accepted; procedure forgets
+add; assign; loop; around; add; assign; again; end; add; return; exact 1; end
 ",
     ),
     (
         b"spins(x) [x|->] { while (true) [x|->] { x->hd = 1; } } [emp]",
-        "accepted
-procedure spins
-add
-loop
-cell 1
-around
-add
-mutate 2
-again
-cell 2
-end
-add
-add
-absurd
+        "accepted; procedure spins
+add; loop; cell 1; around; add; mutate 2; again; cell 2; end; add; add; absurd
 ",
     ),
     (
@@ -253,50 +122,18 @@ absurd
 pub const CALLS: [(&[u8], &str); 4] = [
     (
         b"swap(x, y;) [list(x) * tree(y)] { local t; t = x; x = y; y = t; } [tree(x) * list(y)] p(a, b;) [tree(a) * list(b)] { swap(b, a;); } [list(a) * tree(b)]",
-        "accepted
-procedure swap
-add
-add
-assign
-assign
-assign
-return
-exact 2
-exact 1
-end
+        "accepted; procedure swap
+add; add; assign; assign; assign; return; exact 2; exact 1; end
 procedure p
-add
-add
-call
-exact 2
-exact 1
-give
-add
-add
-return
-exact 4
-exact 3
-end
+add; add; call; exact 2; exact 1; give; add; add; return; exact 4; exact 3; end
 ",
     ),
     (
         b"set(x; v) { x = v; } [x == v] p(a;) { set(a; 3); set(a; a); } [a == 3]",
-        "accepted
-procedure set
-assign
-return
-same
-end
+        "accepted; procedure set
+assign; return; same; end
 procedure p
-call
-give
-add
-call
-give
-add
-return
-same
-end
+call; give; add; call; give; add; return; same; end
 ",
     ),
     (
@@ -313,80 +150,19 @@ end
 pub const RECURSION: [(&[u8], &str); 3] = [
     (
         b"copy(c; x) [list(x)] { local t, d; if (x == nil) c = nil; else { t = x->tl; copy(d; t); c = new(); c->tl = d; } } [list(x) * list(c)]",
-        "accepted
-procedure copy
-add
-split s1 nil
-drop 1
-then
-assign
-return
-empty
-empty
-end
-else
-unroll 1
-look 2
-call
-exact 3
-give
-add
-add
-new
-mutate 6
-return
-head 2
-exact 4
-head 6
-exact 5
-end
+        "accepted; procedure copy
+add; split s1 nil; drop 1; then; assign; return; empty; empty; end; else; unroll 1; look 2; call
+exact 3; give; add; add; new; mutate 6; return; head 2; exact 4; head 6; exact 5; end
 ",
     ),
     (
         b"even(x; y) [list(y)] { if (y == nil) x = 1; else { y = y->tl; odd(x; y); } } [list(y)] odd(x; y) [list(y)] { if (y == nil) x = 0; else { y = y->tl; even(x; y); } } [list(y)]",
-        "accepted
-procedure even
-add
-assign
-split s1 nil
-drop 1
-then
-assign
-return
-empty
-end
-else
-unroll 1
-look 2
-call
-exact 3
-give
-add
-return
-head 2
-exact 4
-end
+        "accepted; procedure even
+add; assign; split s1 nil; drop 1; then; assign; return; empty; end; else; unroll 1; look 2; call
+exact 3; give; add; return; head 2; exact 4; end
 procedure odd
-add
-assign
-split s1 nil
-drop 1
-then
-assign
-return
-empty
-end
-else
-unroll 1
-look 2
-call
-exact 3
-give
-add
-return
-head 2
-exact 4
-end
+add; assign; split s1 nil; drop 1; then; assign; return; empty; end; else; unroll 1; look 2; call
+exact 3; give; add; return; head 2; exact 4; end
 ",
     ),
     (
@@ -413,59 +189,17 @@ want 2 == 1
     ),
     (
         b"resource r (v) [list(v)] clear() { local t; with r when (v != nil) { while (v != nil) [list(v)] { t = v; v = t->tl; dispose(t); } } }",
-        "accepted
-procedure clear
-enter
-add
-add
-loop
-exact 1
-around
-add
-add
-assign
-unroll 2
-look 3
-dispose 3
-again
-exact 4
-end
-add
-add
-drop 2
-exit
-empty
-give
-return
-end
+        "accepted; procedure clear
+enter; add; add; loop; exact 1; around; add; add; assign; unroll 2; look 3; dispose 3; again
+exact 4; end; add; add; drop 2; exit; empty; give; return; end
 ",
     ),
     (
         b"resource r (v) [list(v)] f(x) [list(v) * x|->] { x->tl = v; v = x; } [list(v)] g(x) [x|->] { with r when (true) { f(x); } }",
-        "accepted
-procedure f
-add
-add
-mutate 2
-assign
-return
-head 2
-exact 1
-end
+        "accepted; procedure f
+add; add; mutate 2; assign; return; head 2; exact 1; end
 procedure g
-add
-enter
-add
-call
-exact 2
-cell 1
-give
-add
-exit
-exact 3
-give
-return
-end
+add; enter; add; call; exact 2; cell 1; give; add; exit; exact 3; give; return; end
 ",
     ),
     (
@@ -484,70 +218,21 @@ want s1|->
 pub const PARALLEL: [(&[u8], &str); 5] = [
     (
         b"mark(x) [x|->] { x->hd = 1; } [x|->hd:1] p(x, y) [x|-> * y|->] { mark(x) || mark(y); } [x|->hd:1 * y|->hd:1]",
-        "accepted
-procedure mark
-add
-mutate 1
-return
-cell 1
-end
+        "accepted; procedure mark
+add; mutate 1; return; cell 1; end
 procedure p
-add
-add
-fork
-cell 1
-cell 2
-give
-add
-add
-return
-cell 3
-cell 4
-end
+add; add; fork; cell 1; cell 2; give; add; add; return; cell 3; cell 4; end
 ",
     ),
     (
         b"resource r (v) [list(v)] clear() [list(v)] { local t; while (v != nil) [list(v)] { t = v; v = t->tl; dispose(t); } } [v == nil] put(x) [x|->] { dispose(x); } p(x) [x|->] { with r when (true) { clear() || put(x); } }",
-        "accepted
-procedure clear
-add
-loop
-exact 1
-around
-add
-add
-assign
-unroll 2
-look 3
-dispose 3
-again
-exact 4
-end
-add
-add
-drop 2
-return
-same
-end
+        "accepted; procedure clear
+add; loop; exact 1; around; add; add; assign; unroll 2; look 3; dispose 3; again; exact 4; end
+add; add; drop 2; return; same; end
 procedure put
-add
-dispose 1
-return
-end
+add; dispose 1; return; end
 procedure p
-add
-enter
-add
-fork
-exact 2
-cell 1
-give
-add
-exit
-empty
-give
-return
-end
+add; enter; add; fork; exact 2; cell 1; give; add; exit; empty; give; return; end
 ",
     ),
     (
@@ -562,55 +247,19 @@ want s0|->
     ),
     (
         b"make(x;) { x = new(); } [x|->] end(x) [x|->] { dispose(x); } p(a;) [a|->] { local b; end(a) || make(b;); a = b; } [a|->]",
-        "accepted
-procedure make
-new
-return
-cell 1
-end
+        "accepted; procedure make
+new; return; cell 1; end
 procedure end
-add
-dispose 1
-return
-end
+add; dispose 1; return; end
 procedure p
-add
-fork
-cell 1
-give
-add
-assign
-return
-cell 2
-end
+add; fork; cell 1; give; add; assign; return; cell 2; end
 ",
     ),
     (
         b"halves(p) [tree(p)] { local i, j; if (p != nil) { i = p->l; j = p->r; halves(i) || halves(j); } } [tree(p)]",
-        "accepted
-procedure halves
-add
-split s0 nil
-drop 1
-else
-return
-empty
-end
-then
-unroll 1
-look 2
-look 2
-fork
-exact 3
-exact 4
-give
-add
-add
-return
-node 2
-exact 5
-exact 6
-end
+        "accepted; procedure halves
+add; split s0 nil; drop 1; else; return; empty; end; then; unroll 1; look 2; look 2; fork; exact 3
+exact 4; give; add; add; return; node 2; exact 5; exact 6; end
 ",
     ),
 ];
@@ -623,25 +272,9 @@ pub const EXISTENTIALS: [(&[u8], &str); 5] = [
     ),
     (
         b"turn(x;) [x|->tl:_y * ls(_y,x)] { x = x->tl; } [x|->tl:_y * ls(_y,x)]",
-        "accepted
-procedure turn
-add
-add
-look 1
-return
-split s1 s0
-drop 2
-cell 1
-empty
-end
-unroll 2
-cell 3
-split s2 s1
-absurd
-join 4
-head 1
-empty
-end
+        "accepted; procedure turn
+add; add; look 1; return; split s1 s0; drop 2; cell 1; empty; end; unroll 2; cell 3; split s2 s1
+absurd; join 4; head 1; empty; end
 ",
     ),
     (
@@ -668,38 +301,14 @@ want s2 == s3
 pub const CHOICES: [(&[u8], &str); 5] = [
     (
         b"either(x, b) [if b == 0 then list(x) else tree(x)] { } [if b != 0 then tree(x) else list(x)]",
-        "accepted
-procedure either
-split s1 0
-then
-add
-return
-else
-exact 1
-end
-else
-add
-return
-then
-exact 1
-end
+        "accepted; procedure either
+split s1 0; then; add; return; else; exact 1; end; else; add; return; then; exact 1; end
 ",
     ),
     (
         b"pick(x; a, b) { if (a == b) x = a; else x = b; } [x == b]",
-        "accepted
-procedure pick
-split s1 s2
-then
-assign
-return
-same
-end
-else
-assign
-return
-same
-end
+        "accepted; procedure pick
+split s1 s2; then; assign; return; same; end; else; assign; return; same; end
 ",
     ),
     (
@@ -718,21 +327,8 @@ want s2 == s1
     ),
     (
         b"full(x, b) [if b == 1 then x|->tl:_n * list(_n) else x == nil] { } [list(x)]",
-        "accepted
-procedure full
-split s1 1
-then
-add
-add
-return
-head 1
-exact 2
-end
-else
-add
-return
-empty
-end
+        "accepted; procedure full
+split s1 1; then; add; add; return; head 1; exact 2; end; else; add; return; empty; end
 ",
     ),
 ];

@@ -2,7 +2,7 @@
 
 use super::compared::{FAILED, PROVED};
 use super::files::mm;
-use super::{says, shelf_with, status_of};
+use super::{says, shelf_with, status_of, text_of};
 use crate::top::smallfoot;
 use sf_base::ProcId;
 use sf_io::{MemShelf, MemSink, Point, TurnGate};
@@ -39,7 +39,7 @@ fn two_workers_search_side_by_side(rt: HostRuntime) -> Result<(), Fail> {
     let words = ["verify", "mm.sf", "--workers", "2"];
     let status = smallfoot(&rt, alloc, &words, &mut shelf, &mut sink, &gate);
     let out = String::from_utf8_lossy(alloc, sink.bytes())?;
-    assert_eq!(rt; out.as_str(), mm::PROOF);
+    assert_eq!(rt; out.as_str(), text_of(alloc, mm::PROOF)?.as_str());
     assert_eq!(rt; status, 0);
     let [one, other] = points_of(1);
     assert!(rt; gate.passes(&one) > 0 || gate.passes(&other) > 0);

@@ -1,20 +1,12 @@
 -- What the code plans for the event of a command.
 -- Ordinary: an effect on what is shared and a change of the frames, or why there is none.
-use Rattle.std.specs.Prelude.{◌≡◌, ℕ, ◌<◌, true, length, List, [], ◌∷◌, Some, None, is_some}
-use Rattle.sf_base.specs.declared.ids.FieldId.{FieldId}
-use Rattle.sf_base.specs.declared.ids.ResId.{ResId}
+use Rattle.std.specs.Prelude.{◌≡◌, ◌⊎◌, ℕ, ◌<◌, true, length, List, [], ◌∷◌, None, is_some}
 use Rattle.sf_base.specs.declared.place.Place.{Place}
-use Rattle.sf_base.specs.HeapStore.{Cell, Heap, Slot, own}
-use Rattle.sf_base.specs.declared.value.Value.{Value}
-use Rattle.sf_base.specs.declared.value.Value.TheVariants.{Loc as loc}
-use Rattle.sf_core.specs.declared.assertion.Test.{Test}
-use Rattle.sf_core.specs.declared.command.Expr.{Expr}
-use Rattle.sf_core.specs.declared.command.Occurrence.{Occurrence}
+use Rattle.sf_base.specs.HeapStore.{Cell, Slot, own}
 use Rattle.sf_core.specs.Machine.Config.{Item, command, Fixed, Frame, runs, waits, Common}
 use Rattle.sf_core.specs.Machine.Enabled.{variable, CommandWrites}
 use Rattle.sf_core.specs.Machine.Step.{Event, Does}
-use Rattle.sf_core.specs.Program.Syntax.{Call, Command, assign, look_up, mutate, new, dispose, if, while, call, fork, with, Block, Assertion, Program}
-use Rattle.sf_heap.specs.Cells.{FieldValues, cell_of}
+use Rattle.sf_core.specs.Program.Syntax.{Call, Command, mutate, new, call, fork, with, Program}
 use Rattle.sf_frame.specs.declared.effect.Effect.TheVariants.{OpenBoth}
 use Rattle.sf_frame.specs.declared.plan.Plan.{Plan}
 use Rattle.sf_frame.specs.declared.plan.Plan.TheVariants.{Acts, Forks, Refused}
@@ -22,8 +14,8 @@ use Rattle.sf_frame.specs.declared.stamp.Stamp.{Stamp}
 use Rattle.sf_frame.specs.Frames.{frame_of}
 use Rattle.sf_frame.specs.Refusals.{Refuses}
 use Rattle.sf_frame.specs.Stamps.{event_of}
-use Rattle.sf_frame.specs.Checked.Effects.{applied, EffectWithin, Suits}
-use Rattle.sf_frame.specs.Checked.Frames.{moved}
+use Rattle.sf_frame.specs.Checked.Effects.{applied, EffectWithin, IsMore, Suits}
+use Rattle.sf_frame.specs.Checked.Frames.{moved, IsCall}
 use Rattle.sf_frame.specs.Checked.Nexts.{frames_with}
 
 -- the procedures are there that the command calls
@@ -46,6 +38,25 @@ pub record IsReady (p : Program) (number : ℕ) (s : Common) (f : Fixed) (one : 
   pub field : SetsField p one
   pub fresh : (i : ℕ) → s.store (own number i) ≡ None
 
+-- the command calls a procedure
+abbrev pub CallsSome : Command → Type 0
+CallsSome (call place c) = Unit {0}
+CallsSome (fork place c d) = Unit {0}
+CallsSome _ = ⊥
+
+-- the event of the command may take room: it makes a cell, enters a region or calls a procedure
+abbrev pub TakesRoom : Command → Type 0
+TakesRoom (new place x) = Unit {0}
+TakesRoom (with place r test body) = Unit {0}
+TakesRoom (call place c) = Unit {0}
+TakesRoom (fork place c d) = Unit {0}
+TakesRoom _ = ⊥
+
+-- the plan has more than an edit, or a frame more, only for such a command
+abbrev pub FitsPlan : Command → Plan → Type 0
+FitsPlan one (Acts effect change) = IsMore effect ⊎ IsCall change → TakesRoom one
+FitsPlan one _ = Unit {0}
+
 -- the plan is that of a command's event: what it makes of what is shared and of the frames is the step of the task,
 -- or at a fork also of its two children, and what it changes is there; or it says why there is no step
 abbrev pub PlansCommand : Program → Event → Common → Fixed → (below : List Frame) → Command
@@ -67,43 +78,6 @@ Plans p ev s f one plan = (below : List Frame) (rest : List Item) → PlansComma
 abbrev pub PlansStamp : Program → Stamp → Common → Fixed → Command → Plan → Type 0
 PlansStamp p stamp s f one plan = (cell : Cell) → Plans p (event_of stamp cell) s f one plan
 
--- of a command that speaks of no procedure, by an event that makes no cell
-abbrev pub PlansOf : Common → Fixed → (Place → Command) → Plan → Type 0
-PlansOf s f one plan = (p : Program) (ev : Event) (place : Place) → Plans p ev s f (one place) plan
-
--- of `x = E`
-abbrev pub PlansAssign : Common → Fixed → Occurrence → Expr → Plan → Type 0
-PlansAssign s f x e = PlansOf s f (λ place. assign place x e)
-
--- of `x = E->f`
-abbrev pub PlansLookUp : Common → Fixed → Occurrence → Expr → FieldId → Plan → Type 0
-PlansLookUp s f x e field = PlansOf s f (λ place. look_up place x e field)
-
--- of `E->f = F`, in a program that has the field
-abbrev pub PlansMutate : Common → Fixed → Expr → FieldId → Expr → Plan → Type 0
-PlansMutate s f e field v plan = (p : Program) (ev : Event) (place : Place) → field.0 < length p.fields
-    → Plans p ev s f (mutate place e field v) plan
-
--- of `x = new()`
-abbrev pub PlansNew : Event → Common → Fixed → Occurrence → Plan → Type 0
-PlansNew ev s f x plan = (p : Program) (place : Place) → Plans p ev s f (new place x) plan
-
--- of `dispose(E)`
-abbrev pub PlansDispose : Common → Fixed → Expr → Plan → Type 0
-PlansDispose s f e = PlansOf s f (λ place. dispose place e)
-
--- of `if (B) C else D`
-abbrev pub PlansIf : Common → Fixed → Test Expr → (this that : Block) → Plan → Type 0
-PlansIf s f test this that = PlansOf s f (λ place. if place test this that)
-
--- of `while (B) C`, whatever its invariant is
-abbrev pub PlansWhile : Common → Fixed → Test Expr → Block → Plan → Type 0
-PlansWhile s f test body plan = (kept : Assertion) → PlansOf s f (λ place. while place test kept body) plan
-
--- of `with r when (B) C`
-abbrev pub PlansWith : Common → Fixed → ResId → Test Expr → Block → Plan → Type 0
-PlansWith s f r test body = PlansOf s f (λ place. with place r test body)
-
 -- of `f(x; E)`
 abbrev pub PlansCall : Program → Event → Common → Fixed → Call → Plan → Type 0
 PlansCall p ev s f c plan = (place : Place) → Plans p ev s f (call place c) plan
@@ -111,14 +85,3 @@ PlansCall p ev s f c plan = (place : Place) → Plans p ev s f (call place c) pl
 -- of `f(x; E) || g(y; F)`
 abbrev pub PlansFork : Program → Event → Common → Fixed → (left right : Call) → Plan → Type 0
 PlansFork p ev s f c d plan = (place : Place) → Plans p ev s f (fork place c d) plan
-
--- the value is the location of a cell with those values in its fields
-pub record IsCellOf (heap : Heap) (root : Value) (values : FieldValues) : Type 0 where
-  pub location : ℕ
-  pub is : root ≡ loc location
-  pub there : heap location ≡ Some (cell_of values)
-
--- the value is that location, where a cell is
-pub record IsCellAt (heap : Heap) (root : Value) (location : ℕ) : Type 0 where
-  pub is : root ≡ loc location
-  pub there : is_some (heap location) ≡ true

@@ -3,7 +3,10 @@
 use Rattle.std.specs.Prelude.{[], ◌∷◌}
 use Rattle.sf_base.specs.declared.path.Turn.TheVariants.{Left as left, Right as right}
 use Rattle.sf_core.specs.Machine.Config.{Task, runs, waits, Path}
-use Rattle.sf_frame.specs.Checked.Frames.{after, moved as stack_moved, HasRoom as HasStackRoom}
+use Rattle.sf_frame.specs.Checked.Frames.{moved as stack_moved, HasRoom as HasStackRoom}
+use Rattle.sf_frame.specs.declared.frame.Way.TheVariants.{Past}
+use Rattle.sf_frame.specs.declared.stack.Change.TheVariants.{GoOn as go_on}
+use Rattle.sf_frame.specs.declared.stack.Stack.{Stack}
 use Rattle.sf_machine.specs.declared.task.Task.{Task as CodeTask}
 use Rattle.sf_machine.specs.declared.task.Task.TheVariants.{Over, Runs, Waits'}
 use Rattle.sf_machine.specs.declared.task.Change.{Change}
@@ -13,7 +16,8 @@ use Rattle.sf_machine.specs.Tasks.{task_of}
 -- what a change makes of a task
 abbrev pub moved : Change → Task → Task
 moved (Steps change) (runs frames) = runs (stack_moved change frames)
-moved (Fork one two) (runs (f ∷ below)) = waits (after f ∷ below) (task_of one.value) (task_of two.value)
+moved (Fork one two) (runs (f ∷ below)) =
+    waits (stack_moved (go_on Past) (f ∷ below)) (task_of one.value) (task_of two.value)
 moved Join (waits frames one two) = runs frames
 moved _ t = t
 
@@ -25,12 +29,18 @@ at_path (right ∷ path) f (waits frames one two) = waits frames one (at_path pa
 at_path (left ∷ path) f (runs frames) = runs frames
 at_path (right ∷ path) f (runs frames) = runs frames
 
+-- a stack of frames has room for a change of its task
+abbrev pub HasRoomIn : Change → Stack → Type 0
+HasRoomIn (Steps change) s = HasStackRoom change s
+HasRoomIn (Fork one two) s = Unit {0}
+HasRoomIn Join s = Unit {0}
+
 -- the task at the end of the path has room for a change
-abbrev pub HasRoom : Path → CodeTask → Type 0
-HasRoom [] Over = Unit {0}
-HasRoom [] (Runs s) = HasStackRoom s
-HasRoom [] (Waits' s p one q two) = Unit {0}
-HasRoom (turn ∷ path) Over = Unit {0}
-HasRoom (turn ∷ path) (Runs s) = Unit {0}
-HasRoom (left ∷ path) (Waits' s p one q two) = HasRoom path one
-HasRoom (right ∷ path) (Waits' s p one q two) = HasRoom path two
+abbrev pub HasRoom : Path → Change → CodeTask → Type 0
+HasRoom [] change Over = Unit {0}
+HasRoom [] change (Runs s) = HasRoomIn change s
+HasRoom [] change (Waits' s p one q two) = Unit {0}
+HasRoom (turn ∷ path) change Over = Unit {0}
+HasRoom (turn ∷ path) change (Runs s) = Unit {0}
+HasRoom (left ∷ path) change (Waits' s p one q two) = HasRoom path change one
+HasRoom (right ∷ path) change (Waits' s p one q two) = HasRoom path change two

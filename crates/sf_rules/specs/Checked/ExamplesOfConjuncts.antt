@@ -157,9 +157,18 @@ handed_over x = record (state_with []) { taken = only x }
 abbrev pub cell_to_s1 : Atom
 cell_to_s1 = Points (Sym 0) ((tl, Sym 1) ∷ [])
 
+-- s0|->tl:s1,l:nil
+abbrev pub cell_of_two : Atom
+cell_of_two = Points (Sym 0) ((tl, Sym 1) ∷ (l, Nil) ∷ [])
+
+-- a cell with the existential in its field tl, and that term in its field l
+abbrev pub two_fields : Term → Conjuncts Term
+two_fields u = also (points place (Known (Sym 0)) ((tl, Exists 0) ∷ (l, Known u) ∷ [])) none
+
 -- cell: the cell at s0 is handed over, and its field is what the existential stands for, a fresh
 -- symbol where it isn't known; the list is still wanted. A cell whose field has another term than
--- the wanted one isn't handed over, nor one whose field isn't known, nor one at another term
+-- the wanted one isn't handed over, nor one whose field isn't known, nor one at another term. Of two
+-- fields each has to fit
 unfoldable pub WantedCellsAreHandedOver : Type 0
 WantedCellsAreHandedOver = (d : Setting)
     → (Leaves d (showing (state_with (only cell_to_s1)) cell_and_list None) (t.Cell 1)
@@ -171,6 +180,9 @@ WantedCellsAreHandedOver = (d : Setting)
     × (HasNoRule d (showing (state_with (only (Points (Sym 0) []))) cell_and_list (Some Nil))
     (t.Cell 1))
     × (HasNoRule d (showing (state_with (only (Points (Sym 1) []))) cell_and_list None) (t.Cell 1))
+    × (Leaves d (showing (state_with (only cell_of_two)) (two_fields Nil) None) (t.Cell 1)
+    (all_done (handed_over cell_of_two) ∷ []))
+    × (HasNoRule d (showing (state_with (only cell_of_two)) (two_fields (Sym 1)) None) (t.Cell 1))
 
 -- to show a list from one term to another
 abbrev pub wants_list : State → (u v : Term) → Goal

@@ -14,8 +14,8 @@ use Rattle.sf_core.specs.declared.command.Expr.{Expr}
 use Rattle.sf_core.specs.declared.command.Occurrence.{Occurrence}
 use Rattle.sf_core.specs.Machine.Step.{Finds}
 use Rattle.sf_core.specs.Program.Syntax.{Block, Command, assign, look_up, mutate, new, dispose, if}
-use Rattle.sf_rules.specs.Rows.Branches.{then_row, else_row}
-use Rattle.sf_rules.specs.Rows.Commands.{assign_row, look_row, mutate_row, new_row, dispose_row}
+use Rattle.sf_rules.specs.Checked.Rows.Branches.{then_row, else_row}
+use Rattle.sf_rules.specs.Checked.Rows.Commands.{assign_row, look_row, mutate_row, new_row, dispose_row}
 use Rattle.sf_sym.specs.Goal.{Item, run, Goal}
 use Rattle.sf_sym.specs.HoldsIn.{HoldsIn}
 use Rattle.sf_sym.specs.Checked.Laws.{Follows, HoldsStill, SomeOf}

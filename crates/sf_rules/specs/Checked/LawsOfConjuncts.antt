@@ -10,9 +10,9 @@ use Rattle.sf_consume.specs.Checked.Laws.{HandsOver, Subtracts}
 use Rattle.sf_consume.specs.Subtract.{Want}
 use Rattle.sf_consume.specs.Wants.{still_wanted, wanting}
 use Rattle.sf_produce.specs.Checked.Laws.{HoldsAssumed, assuming}
-use Rattle.sf_rules.specs.Rows.Add.{assume_row}
-use Rattle.sf_rules.specs.Rows.Branches.{branch_row}
-use Rattle.sf_rules.specs.Rows.Take.{subtract_row}
+use Rattle.sf_rules.specs.Checked.Rows.Add.{assume_row}
+use Rattle.sf_rules.specs.Checked.Rows.Branches.{branch_row}
+use Rattle.sf_rules.specs.Checked.Rows.Take.{subtract_row}
 use Rattle.sf_sym.specs.declared.tag.Tag.{Tag}
 use Rattle.sf_sym.specs.Goal.{Item, add, take, Goal, taking}
 use Rattle.sf_sym.specs.Checked.Laws.{Follows, KeptWith}

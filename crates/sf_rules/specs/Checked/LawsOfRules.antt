@@ -1,7 +1,7 @@
 -- Laws of the rules: the table as a function, which the code computes, says the same as the rules, in both directions.
 -- Ordinary: a family by cases and the function that decides it.
 use Rattle.std.specs.Prelude.{◌≡◌, Some, List}
-use Rattle.sf_rules.specs.Rows.Whole.{row}
+use Rattle.sf_rules.specs.Checked.Rows.Whole.{row}
 use Rattle.sf_rules.specs.Rules.{Leaves}
 use Rattle.sf_rules.specs.Setting.{Setting}
 use Rattle.sf_sym.specs.declared.tag.Tag.{Tag}

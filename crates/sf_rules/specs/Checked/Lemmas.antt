@@ -7,6 +7,7 @@ pub mod FewNew
 pub mod FirstVariables
 pub mod Forms
 pub mod FreshVariables
+pub mod RowParts
 pub mod RowRules
 pub mod RuleRows
 pub mod StateChildren
@@ -22,7 +23,7 @@ use Rattle.sf_core.specs.Program.View.{conjunct_of, conjuncts, level_of, conjunc
 use Rattle.sf_sym.specs.declared.tag.Tag.{Tag}
 use Rattle.sf_sym.specs.Goal.{Goal}
 use Rattle.sf_rules.specs.declared.few.TheConstants.{TOO_MANY}
-use Rattle.sf_rules.specs.Few.{if_few}
+use Rattle.sf_rules.specs.Checked.Few.{if_few}
 use Rattle.sf_rules.specs.Proving.{Proof, Proofs, no_more, and, preorder, preorders}
 use Rattle.sf_rules.specs.Setting.{Setting}
 

@@ -12,15 +12,16 @@ use Rattle.sf_core.specs.declared.command.Expr.{Expr}
 use Rattle.sf_core.specs.declared.command.Occurrence.{Occurrence}
 use Rattle.sf_core.specs.Program.Syntax.{Assertion, Block, Call, assign, look_up, mutate, new, dispose, if, while, call, fork, with, Procedure, Resource}
 use Rattle.sf_normal.specs.Knowledge.{absurd_row, drop_row, force_row, split_row, unroll_row}
-use Rattle.sf_rules.specs.Rows.Add.{assume_row}
-use Rattle.sf_rules.specs.Rows.Branches.{branch_row}
-use Rattle.sf_rules.specs.Rows.Calls.{term_after, term_before}
-use Rattle.sf_rules.specs.Rows.Commands.{assign_row, look_row, mutate_row, new_row, dispose_row}
-use Rattle.sf_rules.specs.Rows.Ends.{is_empty}
-use Rattle.sf_rules.specs.Rows.Loops.{after_loop, body_once, unknown_in}
-use Rattle.sf_rules.specs.Rows.Regions.{variables_from}
-use Rattle.sf_rules.specs.Rows.Take.{subtract_row}
-use Rattle.sf_rules.specs.Rows.Whole.{row}
+use Rattle.sf_rules.specs.Checked.Rows.Add.{assume_row}
+use Rattle.sf_rules.specs.Checked.Rows.Branches.{branch_row}
+use Rattle.sf_rules.specs.Callee.{term_after, term_before}
+use Rattle.sf_rules.specs.Checked.Rows.Commands.{assign_row, look_row, mutate_row, new_row, dispose_row}
+use Rattle.sf_rules.specs.Checked.Rows.Ends.{is_empty}
+use Rattle.sf_rules.specs.Checked.Rows.Loops.{after_loop, body_once}
+use Rattle.sf_rules.specs.Rules.{unknown_in}
+use Rattle.sf_rules.specs.Resources.{variables_from}
+use Rattle.sf_rules.specs.Checked.Rows.Take.{subtract_row}
+use Rattle.sf_rules.specs.Checked.Rows.Whole.{row}
 use Rattle.sf_rules.specs.Setting.{Setting}
 use Rattle.sf_rules.specs.Words.{to_add, to_add_test, to_take, to_take_each}
 use Rattle.sf_sym.specs.declared.tag.Tag.{Tag}

@@ -4,7 +4,7 @@ use Rattle.sf_core.specs.declared.command.Expr.{Expr}
 use Rattle.sf_core.specs.Program.View.{call_of}
 use Rattle.sf_rules.specs.declared.words.Terms.{Terms}
 use Rattle.sf_rules.specs.declared.words.Terms.TheVariants.{Of, OfCallee}
-use Rattle.sf_rules.specs.Rows.Calls.{callee_term, term_by}
+use Rattle.sf_rules.specs.Callee.{callee_term, term_by}
 use Rattle.sf_sym.specs.declared.term.Term.{Term}
 use Rattle.sf_sym.specs.State.{term, term_at}
 

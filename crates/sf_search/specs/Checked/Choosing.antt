@@ -8,7 +8,10 @@ use Rattle.sf_sym.specs.declared.tag.Tag.TheVariants as t
 use Rattle.sf_sym.specs.Known.{is_nothing}
 use Rattle.sf_sym.specs.State.{State}
 use Rattle.sf_sym.specs.Tests.{is_absurd}
-use Rattle.sf_search.specs.Strategy.{Choice, takes, at_command, lowest, lowest_forced, or_else, takes_if, which}
+use Rattle.sf_search.specs.declared.choices.choice.Choice.{Choice}
+use Rattle.sf_search.specs.declared.choices.choice.Choice.TheVariants.{Takes as takes}
+use Rattle.sf_search.specs.Strategy.{lowest, lowest_forced, or_else, which}
+use Rattle.sf_search.specs.Checked.Chooses.{at_command, takes_if}
 
 -- by what is known, and else that
 abbrev pub at_state : State → Choice → Choice

@@ -11,7 +11,9 @@ use Rattle.sf_sym.specs.State.{State}
 use Rattle.sf_sym.specs.Tests.{root}
 use Rattle.sf_search.specs.declared.choices.holders.Holder.{Holder}
 use Rattle.sf_search.specs.declared.choices.holders.Holder.TheVariants.{Cell, Opened}
-use Rattle.sf_search.specs.Strategy.{lowest, opened, takes, which}
+use Rattle.sf_search.specs.declared.choices.choice.Choice.TheVariants.{Takes as takes}
+use Rattle.sf_search.specs.Strategy.{lowest, which}
+use Rattle.sf_search.specs.Checked.Chooses.{opened}
 
 -- that is the lowest cell at the term, and no segment or tree begins there
 pub record IsSoleCell (s : State) (t : Term) (a : ℕ) : Type 0 where

@@ -3,11 +3,11 @@
 -- Ordinary: the strategy is a function, as the rules say it, too, and a search ends at its limit.
 use Rattle.std.specs.Prelude.{◌≡◌, true, List}
 use Rattle.sf_rules.specs.Checked.LawsOfShape.{IsSetUp}
-use Rattle.sf_rules.specs.Few.{has_numbers}
-use Rattle.sf_rules.specs.Rules.{Leaves}
+use Rattle.sf_rules.specs.Rules.{has_numbers, Leaves}
 use Rattle.sf_rules.specs.Setting.{Setting}
 use Rattle.sf_rules.specs.Shape.{IsShaped}
-use Rattle.sf_search.specs.Strategy.{chooses, takes}
+use Rattle.sf_search.specs.declared.choices.choice.Choice.TheVariants.{Takes as takes}
+use Rattle.sf_search.specs.Strategy.{strategy}
 use Rattle.sf_search.specs.Judge.{Judge, Outcome, Search, Verdict, proof}
 use Rattle.sf_rules.specs.Proving.{Proves}
 use Rattle.sf_search.specs.Checked.ShapeLaws.{KeepsShape}
@@ -39,4 +39,4 @@ TakenTagsProve = (d : Setting) (tags : List Tag) → Judge d (proof tags) → Pr
 -- a tag that the strategy takes has a rule, at goals as programs have them where numbers suffice
 unfoldable pub TakenTagsHaveRows : Type 0
 TakenTagsHaveRows = (d : Setting) (goal : Goal) (tag : Tag) → IsShaped d goal → has_numbers goal.state ≡ true
-    → chooses goal ≡ takes tag → (left : List Goal) × Leaves d goal tag left
+    → strategy goal ≡ takes tag → (left : List Goal) × Leaves d goal tag left

@@ -9,7 +9,7 @@ use Rattle.sf_core.specs.Program.Syntax.{Assertion, Procedure}
 use Rattle.sf_precise.specs.declared.arranged.Arranged.{Arranged}
 use Rattle.sf_precise.specs.Order.{IsOrdering}
 use Rattle.sf_rules.specs.Checked.LawsOfShape.{IsSetUp}
-use Rattle.sf_rules.specs.Few.{has_numbers}
+use Rattle.sf_rules.specs.Rules.{has_numbers}
 use Rattle.sf_rules.specs.First.{first_goal}
 use Rattle.sf_rules.specs.Setting.{Setting, setting_of}
 use Rattle.sf_rules.specs.Shape.{IsGoalAfter, IsShaped}

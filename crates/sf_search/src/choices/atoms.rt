@@ -4,16 +4,16 @@
 ghost use Rattle.std.specs.Prelude.{◌≡◌, MatchResult, None, Some, is_some};
 ghost use Rattle.std.specs.Option.{option_map};
 ghost use Rattle.sf_consume.specs.Subtract.{is_same_shape};
-ghost use Rattle.sf_search.specs.Ends.{choice_of, kind_of};
 ghost use Rattle.sf_search.specs.Checked.Settled.{IsSettled};
-ghost use Rattle.sf_search.specs.Strategy.{lower, lowest, opened, opened_by, or_else, segment_at, split_or, tree_at, undecided_ends, which};
+ghost use Rattle.sf_search.specs.Checked.Chooses.{opened, opened_by, split_or};
+ghost use Rattle.sf_search.specs.Strategy.{lower, lowest, or_else, segment_at, tree_at, undecided_ends, which};
 ghost use Rattle.sf_sym.specs.Cells.{fields_at};
 ghost use Rattle.sf_sym.specs.Tests.{parts};
 
-use crate::choices::choice::{Choice, Kind};
+use crate::choices::choice::Choice;
 use crate::choices::holders::{Holder, held_at, sole_cell};
 use sf_consume::is_same_shape;
-use sf_sym::{Atom, Numbered, State, Tag, Term};
+use sf_sym::{Atom, Numbered, State, Stuck, Tag, Term};
 
 /// The number of the lowest cell at the term.
 pub(crate) fn lowest_cell(state: &State, t: Term) -> Option<u32>
@@ -131,8 +131,8 @@ fn first_shape(state: &State, wanted: &Atom) -> Option<u32>
 
 /// Where a goal would be stuck: the ends of the lowest atom or taken atom of which it isn't known
 /// whether it is empty are split, and without one the goal is stuck for that reason.
-pub(crate) fn split_or(state: &State, kind: Kind) -> Choice
-    ensures { choice_of result ≡ split_or state.now (kind_of kind) }
+pub(crate) fn split_or(state: &State, kind: Stuck) -> Choice
+    ensures { result ≡ split_or state.now kind }
 {
     match lowest_undecided(state) {
         Some((_, (t, u))) => Choice::Takes(Tag::Split(t, u)),
@@ -212,12 +212,12 @@ fn undecided_ends(state: &State, atom: &Atom) -> Option<(Term, Term)>
 /// The number of the lowest cell at the term. Where there is none the `Err` is what is done: a part
 /// of the heap that may begin with one is opened, and without one the goal would be stuck for that
 /// reason.
-pub(crate) fn at_cell(state: &State, t: Term, kind: Kind) -> Result<u32, Choice>
+pub(crate) fn at_cell(state: &State, t: Term, kind: Stuck) -> Result<u32, Choice>
     requires { IsSettled state.now }
     ensures { MatchResult result
         (λ a. Some a ≡ option_map (λ f. f.0) (lowest (λ x. fields_at x t) state.now.atoms))
         (λ c. (None ≡ option_map (λ f. f.0) (lowest (λ x. fields_at x t) state.now.atoms))
-        × (choice_of c ≡ or_else (opened state.now t) (split_or state.now (kind_of kind)))) }
+        × (c ≡ or_else (opened state.now t) (split_or state.now kind))) }
 {
     match held_at(state, t) {
         Some(Holder::Cell(a)) => Ok(a),
@@ -231,8 +231,8 @@ pub(crate) fn at_cell(state: &State, t: Term, kind: Kind) -> Result<u32, Choice>
 
 /// Where a cell at the term is wanted and there is none: a part of the heap that may begin with one
 /// is opened, and without one the goal would be stuck for that reason.
-fn without_cell(state: &State, t: Term, kind: Kind) -> Choice
-    ensures { choice_of result ≡ or_else (opened state.now t) (split_or state.now (kind_of kind)) }
+fn without_cell(state: &State, t: Term, kind: Stuck) -> Choice
+    ensures { result ≡ or_else (opened state.now t) (split_or state.now kind) }
 {
     match opened(state, t) {
         Some(choice) => choice,
@@ -242,7 +242,7 @@ fn without_cell(state: &State, t: Term, kind: Kind) -> Choice
 
 /// The lowest segment from the term is opened, or else the lowest tree there.
 fn opened(state: &State, t: Term) -> Option<Choice>
-    ensures { option_map choice_of result ≡ opened state.now t }
+    ensures { result ≡ opened state.now t }
 {
     if let Some((a, end)) = lowest_segment(state, t) {
         return Some(opened_by(state, t, end, a));
@@ -254,7 +254,7 @@ fn opened(state: &State, t: Term) -> Option<Choice>
 /// A segment or tree with these ends is unrolled where it surely isn't empty, and else its ends are
 /// split.
 fn opened_by(state: &State, t: Term, u: Term, a: u32) -> Choice
-    ensures { choice_of result ≡ opened_by state.now t u a }
+    ensures { result ≡ opened_by state.now t u a }
 {
     if state.differs(t, u) {
         Choice::Takes(Tag::Unroll(a))

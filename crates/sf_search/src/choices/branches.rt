@@ -1,18 +1,17 @@
 //! Choices, as commands or among conjuncts, by their test.
 
 ghost use Rattle.std.specs.Prelude.{◌≡◌};
-ghost use Rattle.sf_search.specs.Ends.{choice_of};
-ghost use Rattle.sf_search.specs.Strategy.{at_choice, at_test};
+ghost use Rattle.sf_search.specs.Checked.Chooses.{at_choice, at_test};
 
 use crate::choices::atoms::split_or;
-use crate::choices::choice::{Choice, Kind};
+use crate::choices::choice::Choice;
 use sf_core::{Operand, Test};
 use sf_rules::{is_decided, test_of_terms};
-use sf_sym::{State, Tag, Term};
+use sf_sym::{State, Stuck, Tag, Term};
 
 /// By a test: the branch for which it is decided, and else its two terms are split.
 pub(crate) fn at_test(state: &State, test: &Test<Term>) -> Choice
-    ensures { choice_of result ≡ at_test state.now test.now }
+    ensures { result ≡ at_test state.now test.now }
 {
     if is_decided(true, state, test) {
         return Choice::Takes(Tag::Then);
@@ -32,10 +31,10 @@ pub(crate) fn at_choice(
     bindings: &[Option<Term>],
     test: &Test<Operand<Term>>,
 ) -> Choice
-    ensures { choice_of result ≡ at_choice state.now bindings.now test.now }
+    ensures { result ≡ at_choice state.now bindings.now test.now }
 {
     match test_of_terms(bindings, test) {
         Some(test) => at_test(state, &test),
-        None => split_or(state, Kind::NotEqual),
+        None => split_or(state, Stuck::NotEqual),
     }
 }

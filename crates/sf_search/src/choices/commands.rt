@@ -2,22 +2,23 @@
 
 ghost use Rattle.std.specs.Prelude.{◌≡◌};
 ghost use Rattle.sf_core.specs.Program.View.{command_of};
-ghost use Rattle.sf_search.specs.Ends.{choice_of};
 ghost use Rattle.sf_search.specs.Checked.Settled.{IsSettled};
-ghost use Rattle.sf_search.specs.Strategy.{at_cell, at_command, no_cell, takes};
+ghost use Rattle.sf_search.specs.declared.choices.choice.Choice.TheVariants.{Takes as takes};
+ghost use Rattle.sf_sym.specs.declared.stuck.Stuck.TheVariants.{NoCell as no_cell};
+ghost use Rattle.sf_search.specs.Checked.Chooses.{at_cell, at_command};
 ghost use Rattle.sf_sym.specs.declared.tag.Tag.TheVariants.{Dispose, Look, Mutate};
 
 use crate::choices::atoms::at_cell;
 use crate::choices::branches::at_test;
-use crate::choices::choice::{Choice, Kind};
+use crate::choices::choice::Choice;
 use sf_core::Command;
 use sf_rules::{command_test, term_of};
-use sf_sym::{State, Tag, Term};
+use sf_sym::{State, Stuck, Tag, Term};
 
 /// What the strategy does at a command.
 pub(crate) fn at_command(state: &State, command: &Command) -> Choice
     requires { IsSettled state.now }
-    ensures { choice_of result ≡ at_command state.now (command_of command.now) }
+    ensures { result ≡ at_command state.now (command_of command.now) }
 {
     match command {
         Command::Assign(..) => Choice::Takes(Tag::Assign),
@@ -37,9 +38,9 @@ pub(crate) fn at_command(state: &State, command: &Command) -> Choice
 #[tactic(auto, using(crate::proofs::Lowest::cell_there, crate::proofs::Lowest::no_cell_there))]
 fn at_look_up(state: &State, t: Term) -> Choice
     requires { IsSettled state.now }
-    ensures { choice_of result ≡ at_cell state.now t (λ a. takes (Look a)) no_cell }
+    ensures { result ≡ at_cell state.now t (λ a. takes (Look a)) no_cell }
 {
-    match at_cell(state, t, Kind::NoCell) {
+    match at_cell(state, t, Stuck::NoCell) {
         Ok(a) => Choice::Takes(Tag::Look(a)),
         Err(choice) => choice,
     }
@@ -49,9 +50,9 @@ fn at_look_up(state: &State, t: Term) -> Choice
 #[tactic(auto, using(crate::proofs::Lowest::cell_there, crate::proofs::Lowest::no_cell_there))]
 fn at_mutation(state: &State, t: Term) -> Choice
     requires { IsSettled state.now }
-    ensures { choice_of result ≡ at_cell state.now t (λ a. takes (Mutate a)) no_cell }
+    ensures { result ≡ at_cell state.now t (λ a. takes (Mutate a)) no_cell }
 {
-    match at_cell(state, t, Kind::NoCell) {
+    match at_cell(state, t, Stuck::NoCell) {
         Ok(a) => Choice::Takes(Tag::Mutate(a)),
         Err(choice) => choice,
     }
@@ -61,9 +62,9 @@ fn at_mutation(state: &State, t: Term) -> Choice
 #[tactic(auto, using(crate::proofs::Lowest::cell_there, crate::proofs::Lowest::no_cell_there))]
 fn at_disposal(state: &State, t: Term) -> Choice
     requires { IsSettled state.now }
-    ensures { choice_of result ≡ at_cell state.now t (λ a. takes (Dispose a)) no_cell }
+    ensures { result ≡ at_cell state.now t (λ a. takes (Dispose a)) no_cell }
 {
-    match at_cell(state, t, Kind::NoCell) {
+    match at_cell(state, t, Stuck::NoCell) {
         Ok(a) => Choice::Takes(Tag::Dispose(a)),
         Err(choice) => choice,
     }

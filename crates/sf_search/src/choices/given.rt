@@ -1,8 +1,7 @@
 //! What is to be assumed.
 
 ghost use Rattle.std.specs.Prelude.{◌≡◌};
-ghost use Rattle.sf_search.specs.Ends.{choice_of};
-ghost use Rattle.sf_search.specs.Strategy.{at_given};
+ghost use Rattle.sf_search.specs.Checked.Chooses.{at_given};
 ghost use Rattle.sf_sym.specs.Pending.{pending_of};
 
 use crate::choices::branches::at_choice;
@@ -12,7 +11,7 @@ use sf_sym::{Pending, State, Tag};
 
 /// What the strategy does at conjuncts to assume: the first is assumed, unless it is a choice.
 pub(crate) fn at_given(state: &State, given: &Pending) -> Choice
-    ensures { choice_of result
+    ensures { result
         ≡ at_given state.now given.now.bindings (pending_of given.now).conjuncts }
 {
     match given.first() {

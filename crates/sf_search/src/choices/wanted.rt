@@ -4,27 +4,26 @@ ghost use Rattle.std.specs.Prelude.{◌≡◌, IfOk};
 ghost use Rattle.std.specs.Option.{option_map};
 ghost use Rattle.sf_consume.specs.Subtract.{wanted_shape};
 ghost use Rattle.sf_core.specs.Program.View.{conjunct_of};
-ghost use Rattle.sf_search.specs.Ends.{choice_of};
 ghost use Rattle.sf_search.specs.Checked.Settled.{IsSettled};
-ghost use Rattle.sf_search.specs.Strategy.{at_equality, at_inequality, at_list, at_points, at_tree, at_want, at_wanted, at_wanted_cell, begins_with, exact_atom, joins};
+ghost use Rattle.sf_search.specs.Checked.Chooses.{at_equality, at_inequality, at_list, at_points, at_tree, at_want, at_wanted, at_wanted_cell, begins_with, exact_atom, joins};
 ghost use Rattle.sf_sym.specs.Pending.{pending_of};
 
 use crate::choices::atoms::{at_cell, lowest_cell, lowest_segment, lowest_shape, split_or};
 use crate::choices::branches::at_choice;
-use crate::choices::choice::{Choice, Kind};
+use crate::choices::choice::Choice;
 use sf_consume::{binds, both, fits_cell, is_empty, is_same, wanted_shape};
 use sf_core::{Conjunct, Operand, Test};
-use sf_sym::{Pending, State, Tag, Term, term_of};
+use sf_sym::{Pending, State, Stuck, Tag, Term, term_of};
 use std::alloc::{AllocError, Global};
 
 /// What the strategy does at conjuncts to show. An `Err` means out of memory.
 pub(crate) fn at_want(alloc: Global, state: &State, want: &Pending) -> Result<Choice, AllocError>
     requires { IsSettled state.now }
-    ensures { IfOk result (λ c. choice_of c ≡ at_want state.now (pending_of want.now)) }
+    ensures { IfOk result (λ c. c ≡ at_want state.now (pending_of want.now)) }
 {
     match want.first() {
         Some(c) => at_wanted(alloc, state, want.bindings(), c),
-        None => Ok(split_or(state, Kind::NoAtom)),
+        None => Ok(split_or(state, Stuck::NoAtom)),
     }
 }
 
@@ -37,10 +36,10 @@ fn at_wanted(
 ) -> Result<Choice, AllocError>
     requires { IsSettled state.now }
     ensures { IfOk result
-        (λ r. choice_of r ≡ at_wanted state.now bindings.now (conjunct_of c.now)) }
+        (λ r. r ≡ at_wanted state.now bindings.now (conjunct_of c.now)) }
 {
     match c {
-        Conjunct::Holds(_, Test::True) => Ok(split_or(state, Kind::NotEqual)),
+        Conjunct::Holds(_, Test::True) => Ok(split_or(state, Stuck::NotEqual)),
         Conjunct::Holds(_, Test::Equal(..)) => Ok(at_equality(state, bindings, c)),
         Conjunct::Holds(_, Test::Differ(x, y)) => Ok(at_inequality(state, bindings, *x, *y)),
         Conjunct::Points(_, x, _) => { at_points(alloc, state, bindings, c, term_of(bindings, x)) }
@@ -52,7 +51,7 @@ fn at_wanted(
 
 /// At an equality: an existential gets a term, or the terms are one.
 fn at_equality(state: &State, bindings: &[Option<Term>], c: &Conjunct<Term>) -> Choice
-    ensures { choice_of result ≡ at_equality state.now bindings.now (conjunct_of c.now) }
+    ensures { result ≡ at_equality state.now bindings.now (conjunct_of c.now) }
 {
     if binds(bindings, c) {
         return Choice::Takes(Tag::Bind);
@@ -60,7 +59,7 @@ fn at_equality(state: &State, bindings: &[Option<Term>], c: &Conjunct<Term>) -> 
     if is_same(bindings, c) {
         return Choice::Takes(Tag::Same);
     }
-    split_or(state, Kind::NotEqual)
+    split_or(state, Stuck::NotEqual)
 }
 
 /// At an inequality: the terms surely differ.
@@ -70,11 +69,11 @@ fn at_inequality(
     x: Operand<Term>,
     y: Operand<Term>,
 ) -> Choice
-    ensures { choice_of result ≡ at_inequality state.now bindings.now x y }
+    ensures { result ≡ at_inequality state.now bindings.now x y }
 {
     match both(bindings, x, y) {
         Some((t, u)) if state.differs(t, u) => Choice::Takes(Tag::Apart),
-        _ => split_or(state, Kind::NotDifferent),
+        _ => split_or(state, Stuck::NotDifferent),
     }
 }
 
@@ -87,12 +86,12 @@ fn at_points(
     root: Option<Term>,
 ) -> Result<Choice, AllocError>
     requires { IsSettled state.now }
-    ensures { IfOk result (λ r. choice_of r
+    ensures { IfOk result (λ r. r
         ≡ at_points state.now bindings.now (conjunct_of c.now) root) }
 {
     match root {
         Some(t) => at_wanted_cell(alloc, state, bindings, c, t),
-        None => Ok(split_or(state, Kind::NoAtom)),
+        None => Ok(split_or(state, Stuck::NoAtom)),
     }
 }
 
@@ -106,17 +105,17 @@ fn at_wanted_cell(
     t: Term,
 ) -> Result<Choice, AllocError>
     requires { IsSettled state.now }
-    ensures { IfOk result (λ r. choice_of r
+    ensures { IfOk result (λ r. r
         ≡ at_wanted_cell state.now bindings.now (conjunct_of c.now) t) }
 {
-    let a = match at_cell(state, t, Kind::NoAtom) {
+    let a = match at_cell(state, t, Stuck::NoAtom) {
         Ok(a) => a,
         Err(choice) => return Ok(choice),
     };
     if fits_cell(alloc, state, bindings, c, a)? {
         Ok(Choice::Takes(Tag::Cell(a)))
     } else {
-        Ok(split_or(state, Kind::NotEqual))
+        Ok(split_or(state, Stuck::NotEqual))
     }
 }
 
@@ -128,10 +127,10 @@ fn at_list(
     ends: Option<(Term, Term)>,
 ) -> Choice
     requires { IsSettled state.now }
-    ensures { choice_of result ≡ at_list state.now bindings.now (conjunct_of c.now) ends }
+    ensures { result ≡ at_list state.now bindings.now (conjunct_of c.now) ends }
 {
     let Some((t, u)) = ends else {
-        return split_or(state, Kind::NoAtom);
+        return split_or(state, Stuck::NoAtom);
     };
     if is_empty(bindings, c) {
         return Choice::Takes(Tag::Empty);
@@ -147,7 +146,7 @@ fn at_list(
     }
     match joins(state, t, u) {
         Some(choice) => choice,
-        None => split_or(state, Kind::NoAtom),
+        None => split_or(state, Stuck::NoAtom),
     }
 }
 
@@ -159,10 +158,10 @@ fn at_tree(
     root: Option<Term>,
 ) -> Choice
     requires { IsSettled state.now }
-    ensures { choice_of result ≡ at_tree state.now bindings.now (conjunct_of c.now) root }
+    ensures { result ≡ at_tree state.now bindings.now (conjunct_of c.now) root }
 {
     let Some(t) = root else {
-        return split_or(state, Kind::NoAtom);
+        return split_or(state, Stuck::NoAtom);
     };
     if is_empty(bindings, c) {
         return Choice::Takes(Tag::Empty);
@@ -176,13 +175,13 @@ fn at_tree(
     if !state.differs(t, Term::Nil) {
         return Choice::Takes(Tag::Split(t, Term::Nil));
     }
-    split_or(state, Kind::NoAtom)
+    split_or(state, Stuck::NoAtom)
 }
 
 /// The lowest atom that is the wanted segment or tree.
 fn exact(state: &State, bindings: &[Option<Term>], c: &Conjunct<Term>) -> Option<Choice>
     requires { IsSettled state.now }
-    ensures { option_map choice_of result
+    ensures { result
         ≡ exact_atom state.now (wanted_shape bindings.now (conjunct_of c.now)) }
 {
     let wanted = wanted_shape(bindings, c)?;
@@ -192,12 +191,12 @@ fn exact(state: &State, bindings: &[Option<Term>], c: &Conjunct<Term>) -> Option
 
 /// The lowest segment from the first term is joined, where the second can't be inside it.
 fn joins(state: &State, t: Term, u: Term) -> Option<Choice>
-    ensures { option_map choice_of result ≡ joins state.now t u }
+    ensures { result ≡ joins state.now t u }
 {
     let (a, _) = lowest_segment(state, t)?;
     if u.is_constant() || state.allocated(u, Some(a)) {
         Some(Choice::Takes(Tag::Join(a)))
     } else {
-        Some(split_or(state, Kind::EndNotAllocated))
+        Some(split_or(state, Stuck::EndNotAllocated))
     }
 }

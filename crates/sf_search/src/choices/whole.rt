@@ -3,27 +3,35 @@
 ghost use Rattle.std.specs.Prelude.{◌≡◌, ◌++◌, IfNone, IfOk, List, false};
 ghost use Rattle.std.specs.Option.{option_map};
 ghost use Rattle.sf_search.specs.Checked.Choosing.{at_first, at_state};
-ghost use Rattle.sf_search.specs.Ends.{choice_of};
 ghost use Rattle.sf_search.specs.Checked.Settled.{IsSettled};
-ghost use Rattle.sf_search.specs.Strategy.{Choice as AnyChoice, at_end, at_items, chooses, or_else};
+ghost use Rattle.sf_search.specs.declared.choices.choice.Choice.{Choice as AnyChoice};
+ghost use Rattle.sf_search.specs.Strategy.{or_else, strategy};
+ghost use Rattle.sf_search.specs.Checked.Chooses.{at_end, at_items, chooses};
 ghost use Rattle.sf_sym.specs.Goal.{Item as Thing, goal_of, items_of, todo_of};
 ghost use Rattle.sf_sym.specs.Checked.Items.{is_nothing};
 ghost use Rattle.sf_sym.specs.Tests.{is_absurd};
 
 use crate::choices::atoms::split_or;
-use crate::choices::choice::{Choice, Kind};
+use crate::choices::choice::Choice;
 use crate::choices::commands::at_command;
 use crate::choices::given::at_given;
 use crate::choices::wanted::at_want;
 use sf_core::Command;
-use sf_sym::{Goal, Item, State, Tag, peek_item};
+use sf_sym::{Goal, Item, State, Stuck, Tag, peek_item};
 use std::alloc::{AllocError, Global};
 
 /// What the strategy does at the goal: an absurd state is closed; then the lowest empty atom goes;
 /// then the lowest atom that can only be empty is so; then the item in front decides. An `Err`
 /// means out of memory, which is wanted for a wanted cell alone.
 pub fn choose(alloc: Global, goal: &Goal) -> Result<Choice, AllocError>
-    ensures { IfOk result (λ c. choice_of c ≡ chooses (goal_of goal.now)) }
+    ensures { IfOk result (λ c. c ≡ strategy (goal_of goal.now)) }
+{
+    choose_unknown(alloc, goal)
+}
+
+/// The same as the code says it: what is in front decides, after what is known.
+pub(crate) fn choose_unknown(alloc: Global, goal: &Goal) -> Result<Choice, AllocError>
+    ensures { IfOk result (λ c. c ≡ chooses (goal_of goal.now)) }
 {
     if goal.state.is_absurd() {
         return Ok(Choice::Takes(Tag::Absurd));
@@ -34,7 +42,7 @@ pub fn choose(alloc: Global, goal: &Goal) -> Result<Choice, AllocError>
 /// The same at a goal whose state isn't absurd.
 pub(crate) fn choose_possible(alloc: Global, goal: &Goal) -> Result<Choice, AllocError>
     requires { is_absurd goal.now.state ≡ false }
-    ensures { IfOk result (λ c. choice_of c ≡ chooses (goal_of goal.now)) }
+    ensures { IfOk result (λ c. c ≡ chooses (goal_of goal.now)) }
 {
     if let Some(choice) = at_state(&goal.state) {
         return Ok(choice);
@@ -47,7 +55,7 @@ pub(crate) fn choose_possible(alloc: Global, goal: &Goal) -> Result<Choice, Allo
 #[tactic(auto, using(crate::proofs::Settled::settled_chooses))]
 pub(crate) fn choose_in_front(alloc: Global, goal: &Goal) -> Result<Choice, AllocError>
     requires { IsSettled goal.now.state }
-    ensures { IfOk result (λ c. choice_of c ≡ chooses (goal_of goal.now)) }
+    ensures { IfOk result (λ c. c ≡ chooses (goal_of goal.now)) }
 {
     at_items(alloc, &goal.state, goal.todo.as_slice())
 }
@@ -57,7 +65,7 @@ pub(crate) fn choose_in_front(alloc: Global, goal: &Goal) -> Result<Choice, Allo
 fn at_state(state: &State) -> Option<Choice>
     requires { is_absurd state.now ≡ false }
     ensures choice { (c : AnyChoice)
-        → or_else (option_map choice_of result) c ≡ at_state state.now c }
+        → or_else (result) c ≡ at_state state.now c }
     ensures settled { IfNone result (IsSettled state.now) }
 {
     state.is_numbered();
@@ -71,7 +79,7 @@ fn at_state(state: &State) -> Option<Choice>
 /// What it does by the item in front. An `Err` means out of memory.
 fn at_items(alloc: Global, state: &State, todo: &[Item]) -> Result<Choice, AllocError>
     requires { IsSettled state.now }
-    ensures { IfOk result (λ c. choice_of c ≡ at_items state.now (todo_of todo.now)) }
+    ensures { IfOk result (λ c. c ≡ at_items state.now (todo_of todo.now)) }
 {
     match peek_item(todo) {
         Some(item) => at_item(alloc, state, item),
@@ -83,7 +91,7 @@ fn at_items(alloc: Global, state: &State, todo: &[Item]) -> Result<Choice, Alloc
 fn at_item(alloc: Global, state: &State, item: &Item) -> Result<Choice, AllocError>
     requires { IsSettled state.now }
     ensures { IfOk result (λ c. (rest : List Thing) → is_nothing item.now ≡ false
-        → choice_of c ≡ at_items state.now (items_of item.now ++ rest)) }
+        → c ≡ at_items state.now (items_of item.now ++ rest)) }
 {
     match item {
         Item::Run(commands) => Ok(at_run(state, commands)),
@@ -101,7 +109,7 @@ fn at_item(alloc: Global, state: &State, item: &Item) -> Result<Choice, AllocErr
 /// What it does at commands: the first one decides.
 fn at_run(state: &State, commands: &[Command]) -> Choice
     requires { IsSettled state.now }
-    ensures { choice_of result ≡ at_first state.now commands.now }
+    ensures { result ≡ at_first state.now commands.now }
 {
     match commands.split_first() {
         Some((command, _)) => at_command(state, command),
@@ -111,11 +119,11 @@ fn at_run(state: &State, commands: &[Command]) -> Choice
 
 /// What it does at the end.
 fn at_end(state: &State) -> Choice
-    ensures { choice_of result ≡ at_end state.now state.now.atoms }
+    ensures { result ≡ at_end state.now state.now.atoms }
 {
     if state.atoms().is_empty() {
         Choice::Takes(Tag::End)
     } else {
-        split_or(state, Kind::Leak)
+        split_or(state, Stuck::Leak)
     }
 }

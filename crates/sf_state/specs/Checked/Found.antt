@@ -1,12 +1,8 @@
 -- The footprints that were found for the first assertions, and what comes of the next one.
 -- Ordinary: footprints in a whole heap that are disjoint, for footprints each in what the earlier
 -- ones leave.
-use Rattle.std.specs.Prelude.{◌≡◌, ◌⊎◌, ◌≤◌, ℕ, ◌++◌, Bool, true, false, nat_eq, List, [], ◌∷◌, Ok, Err, Result}
-use Rattle.std.specs.BTreeSet.{contains}
-use Rattle.std.specs.FinMap.{contains_key}
-use Rattle.std.specs.List.{AllZip, IsDistinct, concat}
-use Rattle.std.specs.Ordering.{nat_cmp}
-use Rattle.std.specs.Set.{is_member}
+use Rattle.std.specs.Prelude.{◌≡◌, ◌⊎◌, ◌≤◌, ℕ, ◌++◌, Bool, true, false, List, [], ◌∷◌, Ok, Err, Result}
+use Rattle.std.specs.List.{AllZip, concat}
 use Rattle.std.specs.declared.alloc.AllocError.{AllocError}
 use Rattle.sf_base.specs.declared.ids.Var.{Var}
 use Rattle.sf_base.specs.declared.value.Value.{Value}
@@ -16,15 +12,14 @@ use Rattle.sf_foot.specs.Footprint.{HasNoFootprint, IsFootprint}
 use Rattle.sf_foot.specs.Starting.{assertions_of}
 use Rattle.sf_state.specs.declared.fault.StartFault.{StartFault}
 use Rattle.sf_state.specs.declared.fault.StartFault.TheVariants as fault
-use Rattle.sf_state.specs.declared.finding.Found.{Found}
+use Rattle.sf_foot.specs.declared.found.Found.{Found}
+use Rattle.sf_foot.specs.Found.{AreApart}
 use Rattle.sf_state.specs.Starts.{IsUnmet, assertion_name, without}
 
 -- these assertions have those footprints in the heap, which are disjoint
 pub record AreFound (assertions : List Assertion) (vars : Var → Value) (heap : Cells) (found : Found) : Type 0 where
   pub footprints : AllZip (λ a ls. IsFootprint a.level vars (heap_of heap) ls) assertions found.parts.items
-  pub distinct : IsDistinct nat_eq (concat found.parts.items)
-  pub there : (l : ℕ) → is_member nat_eq (concat found.parts.items) l ≡ true → contains_key heap l ≡ true
-  pub marks : (l : ℕ) → contains nat_cmp found.taken l ≡ is_member nat_eq (concat found.parts.items) l
+  pub apart : AreApart heap found
 
 -- the assertion after them has a footprint in what they leave, and was found too; or it has none;
 -- or memory runs out

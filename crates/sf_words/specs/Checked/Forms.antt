@@ -43,10 +43,12 @@ silent s = record s {
 }
 
 abbrev pub program_form : App
-program_form = with_subcommand (with_subcommand (with_subcommand (with_subcommand (with_subcommand (with_subcommand
+program_form = with_subcommand (with_subcommand (with_subcommand (with_subcommand
+    (with_subcommand (with_subcommand (with_subcommand
     (on_top silent (new_app (codes "smallfoot"))) verify_form.top)
     (bare_form (codes "recheck")).top) run_form.top) (bare_form (codes "demo")).top)
-    (bare_form (codes "order")).top) (bare_form (codes "replay")).top
+    (bare_form (codes "order")).top) (bare_form (codes "replay")).top)
+    (bare_form (codes "witness")).top
 
 -- the values that stand under a name, in order
 abbrev pub values_at : Text → List Row → List Text

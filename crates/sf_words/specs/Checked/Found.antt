@@ -10,7 +10,7 @@ use Rattle.sf_words.specs.Checked.Forms.{operands_id, values_at}
 use Rattle.sf_words.specs.declared.order.WordFault.{WordFault}
 use Rattle.sf_words.specs.declared.order.WordFault.TheVariants.{OutOfMemory, Usage}
 use Rattle.sf_words.specs.Words.{Order, Text, demo_of, ranking_of, recheck_of, replay_of, run_of, steps_of, verify_of}
-use Rattle.sf_words.specs.Words.{waits_of, workers_of}
+use Rattle.sf_words.specs.Words.{waits_of, witness_of, workers_of}
 use Rattle.sf_words.specs.WordsOf.{words_of}
 
 -- the texts that a list has, or none
@@ -34,7 +34,9 @@ order_found name rows =
     else (if bytes_eq (codes "run") name then run_found rows
     else (if bytes_eq (codes "demo") name then demo_of (values_at operands_id rows)
     else (if bytes_eq (codes "order") name then ranking_of (values_at operands_id rows)
-    else (if bytes_eq (codes "replay") name then replay_of (values_at operands_id rows) else None)))))
+    else (if bytes_eq (codes "replay") name then replay_of (values_at operands_id rows)
+    else (if bytes_eq (codes "witness") name then witness_of (values_at operands_id rows)
+    else None))))))
 
 -- the order of the command that was met, if one was
 abbrev pub met_order : Option (Text × List Row) → Option Order

@@ -33,93 +33,16 @@ three(x; y, z) [list(x) * list(y) * list(z)] {
   append_rec(x; z);
 } [list(x)]
 ",
-    "accepted
-procedure append
-add
-add
-split s0 nil
-drop 1
-then
-assign
-return
-exact 2
-end
-else
-assign
-unroll 1
-look 3
-loop
-empty
-cell 3
-exact 4
-around
-add
-add
-add
-add
-assign
-unroll 7
-look 8
-again
-split s0 s4
-force 5
-absurd
-join 5
-head 6
-empty
-cell 8
-exact 9
-end
-add
-add
-add
-add
-drop 7
-mutate 6
-return
-join 5
-head 6
-exact 2
-end
+    "accepted; procedure append
+add; add; split s0 nil; drop 1; then; assign; return; exact 2; end; else; assign; unroll 1; look 3
+loop; empty; cell 3; exact 4; around; add; add; add; add; assign; unroll 7; look 8; again
+split s0 s4; force 5; absurd; join 5; head 6; empty; cell 8; exact 9; end; add; add; add; add
+drop 7; mutate 6; return; join 5; head 6; exact 2; end
 procedure append_rec
-add
-add
-split s0 nil
-drop 1
-then
-assign
-return
-exact 2
-end
-else
-unroll 1
-look 3
-call
-exact 4
-exact 2
-give
-add
-mutate 3
-return
-head 3
-exact 5
-end
+add; add; split s0 nil; drop 1; then; assign; return; exact 2; end; else; unroll 1; look 3; call
+exact 4; exact 2; give; add; mutate 3; return; head 3; exact 5; end
 procedure three
-add
-add
-add
-call
-exact 1
-exact 2
-give
-add
-call
-exact 4
-exact 3
-give
-add
-return
-exact 5
-end
+add; add; add; call; exact 1; exact 2; give; add; call; exact 4; exact 3; give; add; return
+exact 5; end
 ",
 );

@@ -21,72 +21,13 @@ four(a, b, c, d;) [list(a) * list(b) * list(c) * list(d)] {
   d = s;
 } [list(a) * list(b) * list(c) * list(d)]
 ",
-    "accepted
-procedure reverse
-add
-assign
-assign
-loop
-empty
-exact 1
-around
-add
-add
-add
-unroll 3
-look 4
-mutate 4
-assign
-assign
-again
-head 4
-exact 2
-exact 5
-end
-add
-add
-add
-drop 3
-return
-exact 2
-end
+    "accepted; procedure reverse
+add; assign; assign; loop; empty; exact 1; around; add; add; add; unroll 3; look 4; mutate 4
+assign; assign; again; head 4; exact 2; exact 5; end; add; add; add; drop 3; return; exact 2; end
 procedure two
-add
-add
-fork
-exact 1
-exact 2
-give
-add
-add
-return
-exact 3
-exact 4
-end
+add; add; fork; exact 1; exact 2; give; add; add; return; exact 3; exact 4; end
 procedure four
-add
-add
-add
-add
-fork
-exact 1
-exact 2
-exact 3
-exact 4
-give
-add
-add
-add
-add
-assign
-assign
-assign
-assign
-return
-exact 5
-exact 6
-exact 7
-exact 8
-end
+add; add; add; add; fork; exact 1; exact 2; exact 3; exact 4; give; add; add; add; add; assign
+assign; assign; assign; return; exact 5; exact 6; exact 7; exact 8; end
 ",
 );

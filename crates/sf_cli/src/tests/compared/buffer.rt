@@ -28,103 +28,23 @@ left() { local x; build(x; nil); send(x); }
 right() { local y; receive(y;); drop(y); }
 main() { left() || right(); }
 ",
-    "accepted
-procedure send
-add
-enter
-split s2 1
-then
-add
-add
-absurd
-else
-add
-assign
-assign
-exit
-then
-exact 1
-give
-return
-end
+    "accepted; procedure send
+add; enter; split s2 1; then; add; add; absurd; else; add; assign; assign; exit; then; exact 1
+give; return; end
 procedure receive
-enter
-split s2 1
-then
-add
-add
-assign
-assign
-exit
-else
-give
-return
-exact 1
-end
-else
-add
-absurd
+enter; split s2 1; then; add; add; assign; assign; exit; else; give; return; exact 1; end; else
+add; absurd
 procedure build
-assign
-loop
-empty
-around
-add
-add
-new
-mutate 2
-assign
-again
-head 2
-exact 1
-end
-add
-add
-return
-exact 1
-end
+assign; loop; empty; around; add; add; new; mutate 2; assign; again; head 2; exact 1; end; add
+add; return; exact 1; end
 procedure drop
-add
-assign
-loop
-exact 1
-around
-add
-add
-unroll 2
-look 3
-dispose 3
-assign
-again
-exact 4
-end
-add
-add
-drop 2
-return
-end
+add; assign; loop; exact 1; around; add; add; unroll 2; look 3; dispose 3; assign; again; exact 4
+end; add; add; drop 2; return; end
 procedure left
-call
-give
-add
-call
-exact 1
-give
-return
-end
+call; give; add; call; exact 1; give; return; end
 procedure right
-call
-give
-add
-call
-exact 1
-give
-return
-end
+call; give; add; call; exact 1; give; return; end
 procedure main
-fork
-give
-return
-end
+fork; give; return; end
 ",
 );

@@ -15,34 +15,8 @@ reverse(o; i) [list(i)] {
   }
 } [list(o)]
 ",
-    "accepted
-procedure reverse
-add
-assign
-assign
-loop
-empty
-exact 1
-around
-add
-add
-add
-unroll 3
-look 4
-mutate 4
-assign
-assign
-again
-head 4
-exact 2
-exact 5
-end
-add
-add
-add
-drop 3
-return
-exact 2
-end
+    "accepted; procedure reverse
+add; assign; assign; loop; empty; exact 1; around; add; add; add; unroll 3; look 4; mutate 4
+assign; assign; again; head 4; exact 2; exact 5; end; add; add; add; drop 3; return; exact 2; end
 ",
 );

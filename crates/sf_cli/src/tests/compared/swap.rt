@@ -22,46 +22,12 @@ twice(x, y;) [list(x) * list(y)] {
   swap(y, x;);
 } [list(x) * list(y)]
 ",
-    "accepted
-procedure swap
-add
-add
-assign
-assign
-assign
-return
-exact 2
-exact 1
-end
+    "accepted; procedure swap
+add; add; assign; assign; assign; return; exact 2; exact 1; end
 procedure swap_heads
-add
-add
-look 1
-look 2
-mutate 1
-mutate 2
-return
-cell 1
-cell 2
-end
+add; add; look 1; look 2; mutate 1; mutate 2; return; cell 1; cell 2; end
 procedure twice
-add
-add
-call
-exact 1
-exact 2
-give
-add
-add
-call
-exact 4
-exact 3
-give
-add
-add
-return
-exact 6
-exact 5
-end
+add; add; call; exact 1; exact 2; give; add; add; call; exact 4; exact 3; give; add; add; return
+exact 6; exact 5; end
 ",
 );

@@ -17,49 +17,12 @@ main() {
 ";
 
 /// Its proof.
-pub const PROOF: &str = "accepted
-procedure put
-add
-enter
-split s2 0
-then
-add
-assign
-assign
-exit
-else
-cell 1
-give
-return
-end
-else
-add
-add
-absurd
+pub const PROOF: &str = "accepted; procedure put
+add; enter; split s2 0; then; add; assign; assign; exit; else; cell 1; give; return; end; else
+add; add; absurd
 procedure get
-enter
-split s2 0
-then
-add
-absurd
-else
-add
-add
-assign
-assign
-exit
-then
-give
-return
-cell 1
-end
+enter; split s2 0; then; add; absurd; else; add; add; assign; assign; exit; then; give; return
+cell 1; end
 procedure main
-new
-fork
-cell 1
-give
-add
-dispose 2
-return
-end
+new; fork; cell 1; give; add; dispose 2; return; end
 ";

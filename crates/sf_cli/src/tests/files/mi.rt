@@ -14,47 +14,13 @@ init() { f = nil; }
 ";
 
 /// Its proof.
-pub const PROOF: &str = "accepted
-procedure alloc
-enter
-add
-split s1 nil
-drop 1
-then
-new
-exit
-empty
-give
-return
-cell 2
-end
-else
-assign
-unroll 1
-look 2
-exit
-exact 3
-give
-return
-cell 2
-end
+pub const PROOF: &str = "accepted; procedure alloc
+enter; add; split s1 nil; drop 1; then; new; exit; empty; give; return; cell 2; end; else; assign
+unroll 1; look 2; exit; exact 3; give; return; cell 2; end
 procedure dealloc
-add
-enter
-add
-mutate 1
-assign
-exit
-head 1
-exact 2
-give
-return
-end
+add; enter; add; mutate 1; assign; exit; head 1; exact 2; give; return; end
 procedure init
-assign
-return
-empty
-end
+assign; return; empty; end
 ";
 
 /// The file in which what is set up is no list.

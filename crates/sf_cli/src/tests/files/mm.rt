@@ -13,40 +13,9 @@ dealloc(y) [y|->] {
 ";
 
 /// Its proof.
-pub const PROOF: &str = "accepted
-procedure alloc
-enter
-add
-split s1 nil
-drop 1
-then
-new
-exit
-empty
-give
-return
-cell 2
-end
-else
-assign
-unroll 1
-look 2
-exit
-exact 3
-give
-return
-cell 2
-end
+pub const PROOF: &str = "accepted; procedure alloc
+enter; add; split s1 nil; drop 1; then; new; exit; empty; give; return; cell 2; end; else; assign
+unroll 1; look 2; exit; exact 3; give; return; cell 2; end
 procedure dealloc
-add
-enter
-add
-mutate 1
-assign
-exit
-head 1
-exact 2
-give
-return
-end
+add; enter; add; mutate 1; assign; exit; head 1; exact 2; give; return; end
 ";

@@ -14,33 +14,7 @@ pub const FILE: &str = "rev(o; i) [list(i)] {
 ";
 
 /// Its proof.
-pub const PROOF: &str = "accepted
-procedure rev
-add
-assign
-assign
-loop
-empty
-exact 1
-around
-add
-add
-add
-unroll 3
-look 4
-mutate 4
-assign
-assign
-again
-head 4
-exact 2
-exact 5
-end
-add
-add
-add
-drop 3
-return
-exact 2
-end
+pub const PROOF: &str = "accepted; procedure rev
+add; assign; assign; loop; empty; exact 1; around; add; add; add; unroll 3; look 4; mutate 4
+assign; assign; again; head 4; exact 2; exact 5; end; add; add; add; drop 3; return; exact 2; end
 ";

@@ -13,23 +13,7 @@ pub const FILE: &str = "disp_tree(p) [tree(p)] {
 ";
 
 /// Its proof.
-pub const PROOF: &str = "accepted
-procedure disp_tree
-add
-split s0 nil
-drop 1
-then
-return
-end
-else
-unroll 1
-look 2
-look 2
-fork
-exact 3
-exact 4
-give
-dispose 2
-return
-end
+pub const PROOF: &str = "accepted; procedure disp_tree
+add; split s0 nil; drop 1; then; return; end; else; unroll 1; look 2; look 2; fork; exact 3
+exact 4; give; dispose 2; return; end
 ";

@@ -58,19 +58,8 @@ want emp
     ),
     (
         b"f(x) [if x == nil then (if x == nil then _z == x * list(_z) else _z == nil) else emp] { }",
-        "accepted
-procedure f
-split s0 nil
-then
-then
-add
-add
-drop 1
-return
-end
-else
-return
-end
+        "accepted; procedure f
+split s0 nil; then; then; add; add; drop 1; return; end; else; return; end
 ",
     ),
     (
@@ -140,19 +129,8 @@ want emp
     (b"f; resource f (f) [] f(g;) { }", EMPTY),
     (
         b"f(x) [(if x == nil then _y == nil else emp) * (if x == nil then emp else _y == nil)] { }",
-        "accepted
-procedure f
-split s0 nil
-then
-add
-then
-return
-end
-else
-else
-add
-return
-end
+        "accepted; procedure f
+split s0 nil; then; add; then; return; end; else; else; add; return; end
 ",
     ),
 ];

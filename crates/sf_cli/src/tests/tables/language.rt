@@ -2,8 +2,8 @@
 
 use crate::tests::files::set;
 
-/// The examples of docs/LANGUAGE.md, copied.
-pub const LANGUAGE: [(&[u8], &str); 27] = [
+/// The examples of docs/LANGUAGE.md, copied, but for the one that is a file of `files`.
+pub const LANGUAGE: [(&[u8], &str); 26] = [
     (b"set(x) [x|->] { x->tl = 3; } [x|->tl:3]", set::PROOF),
     (
         b"key, next;\nmark(x) [x|->] { x->key = 1; x->next = nil; } [x|->next:nil,key:1]",
@@ -23,51 +23,14 @@ pub const LANGUAGE: [(&[u8], &str); 27] = [
 put(x) [x|->] { with buf when (full == 0) { c = x; full = 1; } } [emp]
 get(y;) [emp] { with buf when (full != 0) { y = c; full = 0; } } [y|->]
 main() { local x, y; x = new(); put(x) || get(y;); dispose(y); }",
-        "accepted
-procedure put
-add
-enter
-split s2 0
-then
-add
-assign
-assign
-exit
-else
-cell 1
-give
-return
-end
-else
-add
-add
-absurd
+        "accepted; procedure put
+add; enter; split s2 0; then; add; assign; assign; exit; else; cell 1; give; return; end; else
+add; add; absurd
 procedure get
-enter
-split s2 0
-then
-add
-absurd
-else
-add
-add
-assign
-assign
-exit
-then
-give
-return
-cell 1
-end
+enter; split s2 0; then; add; absurd; else; add; add; assign; assign; exit; then; give; return
+cell 1; end
 procedure main
-new
-fork
-cell 1
-give
-add
-dispose 2
-return
-end
+new; fork; cell 1; give; add; dispose 2; return; end
 ",
     ),
     (
@@ -81,49 +44,6 @@ want emp
 ",
     ),
     (
-        b"rev(o; i) [list(i)] {
-  local t;
-  o = nil;
-  while (i != nil) [list(o) * list(i)] {
-    t = i->tl;
-    i->tl = o;
-    o = i;
-    i = t;
-  }
-} [list(o)]
-",
-        "accepted
-procedure rev
-add
-assign
-assign
-loop
-empty
-exact 1
-around
-add
-add
-add
-unroll 3
-look 4
-mutate 4
-assign
-assign
-again
-head 4
-exact 2
-exact 5
-end
-add
-add
-add
-drop 3
-return
-exact 2
-end
-",
-    ),
-    (
         b"resource mm (f) [list(f)]\npeek(x;) { x = f; }",
         "file refused: 30 NotHeld at 2:16 f\n",
     ),
@@ -131,21 +51,10 @@ end
         b"resource mm (f) [list(f)]
 peek(x;) { with mm when (true) { x = f; } }
 look(x;) [f == nil] { x = f; }",
-        "accepted
-procedure peek
-enter
-add
-assign
-exit
-exact 1
-give
-return
-end
+        "accepted; procedure peek
+enter; add; assign; exit; exact 1; give; return; end
 procedure look
-add
-assign
-return
-end
+add; assign; return; end
 ",
     ),
     (
@@ -171,17 +80,8 @@ b() { with r when (true) { a(); } }",
   top = cell;
 } [list(top)]
 ",
-        "accepted
-procedure push
-add
-new
-mutate 2
-mutate 2
-assign
-return
-head 2
-exact 1
-end
+        "accepted; procedure push
+add; new; mutate 2; mutate 2; assign; return; head 2; exact 1; end
 ",
     ),
     (
@@ -211,27 +111,9 @@ want emp
   }
 } [top == nil]
 ",
-        "accepted
-procedure clear
-add
-loop
-exact 1
-around
-add
-add
-assign
-unroll 2
-look 3
-dispose 3
-again
-exact 4
-end
-add
-add
-drop 2
-return
-same
-end
+        "accepted; procedure clear
+add; loop; exact 1; around; add; add; assign; unroll 2; look 3; dispose 3; again; exact 4; end
+add; add; drop 2; return; same; end
 ",
     ),
     (
@@ -261,20 +143,8 @@ push(value) {
   with stack when (true) { cell->tl = top; top = cell; }
 }
 ",
-        "accepted
-procedure push
-new
-mutate 1
-enter
-add
-mutate 1
-assign
-exit
-head 1
-exact 2
-give
-return
-end
+        "accepted; procedure push
+new; mutate 1; enter; add; mutate 1; assign; exit; head 1; exact 2; give; return; end
 ",
     ),
     (
@@ -310,39 +180,12 @@ pop(value;) {
 }
 main(value;) { push(1) || pop(value;); }
 ",
-        "accepted
-procedure push
-new
-mutate 1
-enter
-add
-mutate 1
-assign
-exit
-head 1
-exact 2
-give
-return
-end
+        "accepted; procedure push
+new; mutate 1; enter; add; mutate 1; assign; exit; head 1; exact 2; give; return; end
 procedure pop
-enter
-add
-add
-assign
-unroll 1
-look 2
-exit
-exact 3
-give
-look 2
-dispose 2
-return
-end
+enter; add; add; assign; unroll 1; look 2; exit; exact 3; give; look 2; dispose 2; return; end
 procedure main
-fork
-give
-return
-end
+fork; give; return; end
 ",
     ),
     (

@@ -19,8 +19,9 @@ returns c = λ g there.
       references = c.in_ok-references.references;
       room = c.args.room;
       todo = c.in_ok-todo.todo;
+      deep = c.in_ok-todo.ensures.deep;
     }) refl
     (subst (λ (xs : List Occurrence). AreReferences slots xs c.in_ok-references.references.items)
     c.deref.ensures.value c.in_ok-references.ensures)
-    (c.in_ok-todo.ensures ∙ ap block_items c.deref-2.ensures.value)
+    (c.in_ok-todo.ensures.todo ∙ ap block_items c.deref-2.ensures.value)
     ∙ ap (λ (h : Procedure). callee_frame slots (call_of c.args.call.now) h (room_of c.args.room)) same

@@ -9,5 +9,6 @@ returns c = entry_is c.args.f c.args.procedure.now (record {
   references = c.in_ok-references.references;
   room = record { event = 0; first = c.args.procedure.now.references; count = c.room_count.result };
   todo = c.in_ok-todo.todo;
+  deep = c.in_ok-todo.ensures.deep;
 }) refl c.in_ok-references.ensures refl refl c.room_count.ensures
-    (c.in_ok-todo.ensures ∙ ap block_items c.deref.ensures.value)
+    (c.in_ok-todo.ensures.todo ∙ ap block_items c.deref.ensures.value)

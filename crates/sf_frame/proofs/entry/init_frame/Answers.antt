@@ -9,5 +9,6 @@ returns c = init_is c.args.n c.args.procedure.now c.args.first (record {
   references = c.new.result;
   room = record { event = 0; first = c.args.first; count = c.room_count.result };
   todo = c.in_ok-todo.todo;
+  deep = c.in_ok-todo.ensures.deep;
 }) refl c.new.ensures.items refl refl c.room_count.ensures
-    (c.in_ok-todo.ensures ∙ ap block_items c.deref.ensures.value)
+    (c.in_ok-todo.ensures.todo ∙ ap block_items c.deref.ensures.value)

@@ -1,66 +1,100 @@
-use Rattle.std.proofs.Common.{ap, ◌∙◌, subst}
+use Rattle.std.proofs.Common.{ℕ, ◌<◌, List, inl, inr, length, map, sym, subst, arith}
+use Rattle.std.proofs.lemmas.List.{length-map}
+use Rattle.sf_core.specs.declared.program.Proc.{Proc}
+use Rattle.sf_core.specs.Program.View.{command_of, procedure_of}
+use Rattle.sf_base.specs.declared.value.Value.TheVariants.{Nil as nil}
 use Rattle.sf_base.specs.HeapStore.{Cell}
 use Rattle.sf_core.specs.Program.ProgramView.{program_of}
-use Rattle.sf_core.specs.Program.View.{assertion_of, command_of}
-use Rattle.sf_frame.specs.Checked.Plans.{SetsField}
+use Rattle.sf_core.specs.Program.Syntax.{Command}
+use Rattle.sf_frame.specs.Checked.Plans.{CallsSome, HasCallees, Plans, TakesRoom}
+use Rattle.sf_frame.specs.Commons.{common_of}
+use Rattle.sf_frame.specs.Frames.{fixed_of}
 use Rattle.sf_frame.specs.Stamps.{event_of}
-use Rattle.sf_frame.proofs.Plans.{ok_map}
-use Rattle.sf_frame.proofs.Views.{view_assign, view_call, view_dispose, view_fork, view_if, view_look_up, view_mutate, view_new, view_while, view_with}
+use Rattle.std.proofs.lemmas.Result.{IfOk-weaker}
+use Rattle.sf_frame.proofs.Plans.{ok_fits, on_err}
 use Rattle.sf_frame.proofs.plan.plan_command.Goals as goal
 
-pub returns-in-Assign : goal.returns-in-Assign
-returns-in-Assign c =
-    rw (ap command_of c.in-Assign.is ∙ view_assign c.in-Assign.field-0 c.in-Assign.x c.in-Assign.e)
-    (λ cell. c.plan_assign.ensures (program_of c.args.p.now) (event_of c.args.event.now cell) c.in-Assign.field-0)
+-- a procedure that the definitions have is there in the code
+callee_there : (xs : List Proc) (k : ℕ) → k < length (map procedure_of xs) → k < length xs
+callee_there xs k l = omega (arith, l, length-map xs procedure_of)
 
-pub returns-in-LookUp : goal.returns-in-LookUp
-returns-in-LookUp c =
-    rw (ap command_of c.in-LookUp.is ∙ view_look_up c.in-LookUp.field-0 c.in-LookUp.x c.in-LookUp.e c.in-LookUp.field)
-    (λ cell. c.plan_look_up.ensures (program_of c.args.p.now) (event_of c.args.event.now cell) c.in-LookUp.field-0)
+-- some cell, where none is made
+any_cell : Cell
+any_cell = λ field. nil
 
-pub returns-in-Mutate : goal.returns-in-Mutate
-returns-in-Mutate c =
-    rw (ap command_of c.in-Mutate.is ∙ view_mutate c.in-Mutate.field-0 c.in-Mutate.e c.in-Mutate.field c.in-Mutate.v)
-    (λ cell. c.plan_mutate.ensures (program_of c.args.p.now) (event_of c.args.event.now cell) c.in-Mutate.field-0
-    (subst (SetsField (program_of c.args.p.now)) (ap command_of c.in-Mutate.is
-    ∙ view_mutate c.in-Mutate.field-0 c.in-Mutate.e c.in-Mutate.field c.in-Mutate.v) c.requires.field))
+pub returns-in-Edits-clause-plans : goal.returns-in-Edits-clause-plans
+returns-in-Edits-clause-plans c = λ cell. c.in-Edits.ensures.acts (program_of c.args.p.now) c.requires.field cell
 
-pub returns-in-Dispose : goal.returns-in-Dispose
-returns-in-Dispose c =
-    rw (ap command_of c.in-Dispose.is ∙ view_dispose c.in-Dispose.field-0 c.in-Dispose.e)
-    (λ cell. c.plan_dispose.ensures (program_of c.args.p.now) (event_of c.args.event.now cell) c.in-Dispose.field-0)
+pub returns-in-Makes-clause-plans : goal.returns-in-Makes-clause-plans
+returns-in-Makes-clause-plans c = λ cell. c.in-Makes.ensures.acts (program_of c.args.p.now) c.requires.field cell
 
-pub returns-in-New : goal.returns-in-New
-returns-in-New c = rw (ap command_of c.in-New.is ∙ view_new c.in-New.field-0 c.in-New.x)
-    (λ cell. c.plan_new.ensures cell (program_of c.args.p.now) c.in-New.field-0)
+pub returns-in-Enters-clause-plans : goal.returns-in-Enters-clause-plans
+returns-in-Enters-clause-plans c = λ cell. c.in-Enters.ensures.acts (program_of c.args.p.now) c.requires.field cell
 
-pub returns-in-If : goal.returns-in-If
-returns-in-If c =
-    let plans = rw (c.deref.ensures.value, c.deref-in-If.ensures.value) at
-    (λ (cell : Cell). c.plan_if.ensures (program_of c.args.p.now) (event_of c.args.event.now cell) c.in-If.field-0) in
-    rw (ap command_of c.in-If.is ∙ view_if c.in-If.field-0 c.in-If.test c.in-If.this c.in-If.that)
-    plans
+pub returns-in-Refused-clause-plans : goal.returns-in-Refused-clause-plans
+returns-in-Refused-clause-plans c = λ cell. c.in-Refused.ensures.acts (program_of c.args.p.now) c.requires.field cell
 
-pub returns-in-While : goal.returns-in-While
-returns-in-While c =
-    let plans = rw c.deref-in-While.ensures.value at (λ (cell : Cell). c.plan_while.ensures (assertion_of c.in-While.field-2)
-    (program_of c.args.p.now) (event_of c.args.event.now cell) c.in-While.field-0) in
-    rw (ap command_of c.in-While.is ∙ view_while c.in-While.field-0 c.in-While.test c.in-While.field-2 c.in-While.body)
-    plans
+pub plan_call-requires : goal.plan_call-requires
+plan_call-requires c =
+    let k = c.in-Calls.ensures.acts (program_of c.args.p.now) c.requires.field any_cell in
+    record {
+      callee = callee_there c.args.p.now.procedures.items _
+          (subst (HasCallees (program_of c.args.p.now)) k.1 c.requires.callees);
+      fresh = c.requires.fresh;
+    }
 
-pub returns-in-With : goal.returns-in-With
-returns-in-With c =
-    let plans = rw c.deref-in-With.ensures.value at
-    (λ (cell : Cell). c.plan_with.ensures (program_of c.args.p.now) (event_of c.args.event.now cell) c.in-With.field-0) in
-    rw (ap command_of c.in-With.is ∙ view_with c.in-With.field-0 c.in-With.r c.in-With.test c.in-With.body)
-    plans
+pub returns-in-Calls-clause-plans : goal.returns-in-Calls-clause-plans
+returns-in-Calls-clause-plans c =
+    let k = c.in-Calls.ensures.acts (program_of c.args.p.now) c.requires.field any_cell in
+    IfOk-weaker c.plan_call.result _ _ (λ plan plans cell.
+    subst (λ (one : Command). Plans (program_of c.args.p.now) (event_of c.args.event.now cell)
+    (common_of c.args.shared.now) (fixed_of c.args.frame.now) one plan) (sym k.1) (plans cell k.0)) c.plan_call.ensures
 
-pub returns-in-Call : goal.returns-in-Call
-returns-in-Call c =
-    rw (ap command_of c.in-Call.is ∙ view_call c.in-Call.field-0 c.in-Call.call)
-    (ok_map c.plan_call.result c.plan_call.ensures (λ plan plans cell. plans cell c.in-Call.field-0))
+pub returns-in-Calls-clause-memory : goal.returns-in-Calls-clause-memory
+returns-in-Calls-clause-memory c =
+    let k = c.in-Calls.ensures.acts (program_of c.args.p.now) c.requires.field any_cell in
+    on_err c.plan_call.result (subst CallsSome (sym k.1) tt)
 
-pub returns-in-Fork : goal.returns-in-Fork
-returns-in-Fork c =
-    rw (ap command_of c.in-Fork.is ∙ view_fork c.in-Fork.field-0 c.in-Fork.one c.in-Fork.two)
-    (ok_map c.plan_fork.result c.plan_fork.ensures (λ plan plans cell. plans cell c.in-Fork.field-0))
+pub plan_fork-requires : goal.plan_fork-requires
+plan_fork-requires c =
+    let k = c.in-Forks.ensures.acts (program_of c.args.p.now) c.requires.field any_cell in
+    let both = subst (HasCallees (program_of c.args.p.now)) k.1 c.requires.callees in
+    record {
+      left = callee_there c.args.p.now.procedures.items _ both.0;
+      right = callee_there c.args.p.now.procedures.items _ both.1;
+      fresh = c.requires.fresh;
+    }
+
+pub returns-in-Forks-clause-plans : goal.returns-in-Forks-clause-plans
+returns-in-Forks-clause-plans c =
+    let k = c.in-Forks.ensures.acts (program_of c.args.p.now) c.requires.field any_cell in
+    IfOk-weaker c.plan_fork.result _ _ (λ plan plans cell.
+    subst (λ (one : Command). Plans (program_of c.args.p.now) (event_of c.args.event.now cell)
+    (common_of c.args.shared.now) (fixed_of c.args.frame.now) one plan) (sym k.1) (plans cell k.0)) c.plan_fork.ensures
+
+pub returns-in-Forks-clause-memory : goal.returns-in-Forks-clause-memory
+returns-in-Forks-clause-memory c =
+    let k = c.in-Forks.ensures.acts (program_of c.args.p.now) c.requires.field any_cell in
+    on_err c.plan_fork.result (subst CallsSome (sym k.1) tt)
+
+pub returns-in-Edits-clause-room : goal.returns-in-Edits-clause-room
+returns-in-Edits-clause-room c = λ h. elim h [
+  | inl more ↦ absurd more
+  | inr more ↦ absurd more
+]
+
+pub returns-in-Makes-clause-room : goal.returns-in-Makes-clause-room
+returns-in-Makes-clause-room c = λ h. c.in-Makes.ensures.room
+
+pub returns-in-Enters-clause-room : goal.returns-in-Enters-clause-room
+returns-in-Enters-clause-room c = λ h. c.in-Enters.ensures.room
+
+pub returns-in-Calls-clause-room : goal.returns-in-Calls-clause-room
+returns-in-Calls-clause-room c =
+    let k = c.in-Calls.ensures.acts (program_of c.args.p.now) c.requires.field any_cell in
+    ok_fits (command_of c.args.command.now) c.plan_call.result (subst TakesRoom (sym k.1) tt)
+
+pub returns-in-Forks-clause-room : goal.returns-in-Forks-clause-room
+returns-in-Forks-clause-room c =
+    let k = c.in-Forks.ensures.acts (program_of c.args.p.now) c.requires.field any_cell in
+    ok_fits (command_of c.args.command.now) c.plan_fork.result (subst TakesRoom (sym k.1) tt)

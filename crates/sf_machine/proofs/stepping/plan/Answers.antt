@@ -8,7 +8,7 @@ use Rattle.sf_machine.specs.Configs.{config_of}
 use Rattle.sf_machine.specs.Events.{event_of}
 use Rattle.sf_frame.specs.Frames.{fixed_of}
 use Rattle.sf_machine.proofs.Enabling.{in_order, there_is}
-use Rattle.sf_frame.proofs.Plans.{ok_map}
+use Rattle.std.proofs.lemmas.Result.{IfOk-weaker}
 use Rattle.sf_machine.proofs.Ready.{ready}
 use Rattle.sf_machine.proofs.Steps.{going_next, idle_rests, none_answers, plan_does, plan_joins, plan_leaves, plan_returns, plan_stale}
 use Rattle.sf_machine.proofs.stepping.plan.Goals as goal
@@ -38,7 +38,7 @@ plan_command-requires c =
     (there_is _ _ c.args.e.now.task c.turns.result.now _ c.in-Some.ensures c.turns.ensures c.in-Does.ensures.2))
 
 pub returns-in_ok-plan-in-Does : goal.returns-in_ok-plan-in-Does
-returns-in_ok-plan-in-Does c = ok_map c.of_stack.result c.of_stack.ensures (λ plan same.
+returns-in_ok-plan-in-Does c = IfOk-weaker c.of_stack.result _ _ (λ plan same.
     plan_does (program_of c.args.p.now) (event_of c.args.e.now) (config_of c.args.c.now)
     (fixed_of c.in-Does.frame.now) c.in-Does.ensures.0 (command_of c.in-Does.command.now) c.in-Does.ensures.1
     c.in_ok-plan-in-Does.plan plan
@@ -46,16 +46,15 @@ returns-in_ok-plan-in-Does c = ok_map c.of_stack.result c.of_stack.ensures (λ p
     (there_is _ _ c.args.e.now.task c.turns.result.now _ c.in-Some.ensures c.turns.ensures c.in-Does.ensures.2)
     (subst (λ (ev : Event). Plans (program_of c.args.p.now) ev (config_of c.args.c.now).common
     (fixed_of c.in-Does.frame.now) (command_of c.in-Does.command.now) c.in_ok-plan-in-Does.plan)
-    c.stamp.ensures.event (c.in_ok-plan-in-Does.ensures (cell_of c.args.e.now.fields)))
-    same)
+    c.stamp.ensures.event (c.in_ok-plan-in-Does.ensures.plans (cell_of c.args.e.now.fields)))
+    same) c.of_stack.ensures
 
 pub returns-in-Leaves : goal.returns-in-Leaves
 returns-in-Leaves c = plan_leaves (program_of c.args.p.now) c.requires.starts.procedure (event_of c.args.e.now)
     (config_of c.args.c.now) c.in-Leaves.ensures.0 c.in-Leaves.ensures.1 c.in-Leaves.r c.in-Leaves.ensures.2
-    c.after.result (in_order (program_of c.args.p.now) (config_of c.args.c.now) c.args.p.now.formed c.requires)
+    (in_order (program_of c.args.p.now) (config_of c.args.c.now) c.args.p.now.formed c.requires)
     (sym c.contains.ensures ∙ c.if-contains.false)
     (there_is _ _ c.args.e.now.task c.turns.result.now _ c.in-Some.ensures c.turns.ensures c.in-Leaves.ensures.3)
-    c.after.ensures
 
 pub returns-in-Returns : goal.returns-in-Returns
 returns-in-Returns c = plan_returns (program_of c.args.p.now) (event_of c.args.e.now) (config_of c.args.c.now)

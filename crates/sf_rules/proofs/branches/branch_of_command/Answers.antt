@@ -2,7 +2,7 @@ use Rattle.std.proofs.Common.{rules, ◌∷◌, sym, ap, ◌∙◌}
 use Rattle.sf_core.specs.Program.Syntax.{Command}
 use Rattle.sf_core.specs.Program.View.{command_of}
 use Rattle.sf_sym.specs.Goal.{run, todo_of}
-use Rattle.sf_rules.specs.Rows.Branches.{branch_row}
+use Rattle.sf_rules.specs.Checked.Rows.Branches.{branch_row}
 use Rattle.sf_rules.proofs.Branching.{choice_view, command_is}
 use Rattle.sf_rules.proofs.Looping.{pushed}
 use Rattle.sf_rules.proofs.branches.branch_of_command.Goals as goal

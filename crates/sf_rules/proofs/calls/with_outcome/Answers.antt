@@ -3,7 +3,7 @@ use Rattle.sf_base.specs.declared.ids.Var.{Var}
 use Rattle.sf_core.specs.Program.View.{assertion_of, call_of}
 use Rattle.sf_sym.specs.declared.term.Term.{Term}
 use Rattle.sf_sym.specs.Goal.{gave, todo_of}
-use Rattle.sf_rules.specs.Rows.Calls.{term_after}
+use Rattle.sf_rules.specs.Callee.{term_after}
 use Rattle.sf_rules.specs.Words.{to_add}
 use Rattle.sf_rules.proofs.Looping.{pushed}
 use Rattle.sf_rules.proofs.calls.with_outcome.Goals as goal

@@ -1,7 +1,7 @@
 use Rattle.std.proofs.Common.{[], ◌∷◌, ◌++◌, ◌∙◌}
 use Rattle.sf_core.specs.Program.View.{assertion_of, call_of}
 use Rattle.sf_sym.specs.Goal.{gave, todo_of}
-use Rattle.sf_rules.specs.Rows.Calls.{term_after}
+use Rattle.sf_rules.specs.Callee.{term_after}
 use Rattle.sf_rules.specs.Words.{to_add}
 use Rattle.sf_rules.proofs.calls.with_outcomes.Goals as goal
 

@@ -3,7 +3,7 @@ use Rattle.sf_core.specs.Program.View.{assertion_of, call_of}
 use Rattle.sf_sym.specs.Goal.{todo_of}
 use Rattle.sf_sym.specs.State.{term, term_at}
 use Rattle.sf_sym.specs.Variables.{set_vars}
-use Rattle.sf_rules.specs.Rows.Calls.{callee_term, term_by}
+use Rattle.sf_rules.specs.Callee.{callee_term, term_by}
 use Rattle.sf_rules.specs.Words.{to_add}
 use Rattle.sf_rules.proofs.calls.with_post.Goals as goal
 

@@ -2,7 +2,7 @@ use Rattle.std.proofs.Common.{◌≡◌, ◌++◌, map, ◌∙◌}
 use Rattle.sf_core.specs.Program.View.{assertion_of, call_of}
 use Rattle.sf_sym.specs.Goal.{todo_of}
 use Rattle.sf_sym.specs.State.{term, term_at}
-use Rattle.sf_rules.specs.Rows.Calls.{callee_term, term_by}
+use Rattle.sf_rules.specs.Callee.{callee_term, term_by}
 use Rattle.sf_rules.specs.Words.{to_take}
 use Rattle.sf_rules.proofs.calls.with_pre.Goals as goal
 

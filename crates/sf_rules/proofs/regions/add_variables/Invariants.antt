@@ -1,5 +1,5 @@
 use Rattle.std.proofs.Common.{◌≡◌, ◌+◌, ◌<◌, ◌^◌, ◌++◌, length}
-use Rattle.sf_rules.specs.Rows.Regions.{variables_from}
+use Rattle.sf_rules.specs.Resources.{variables_from}
 use Rattle.sf_rules.proofs.regions.add_variables.Given as goal
 
 abbrev pub invariant-loop-rest : goal.invariant-loop-rest

@@ -5,7 +5,7 @@ use Rattle.sf_core.specs.Program.View.{assertion_of}
 use Rattle.sf_sym.specs.Goal.{todo_of}
 use Rattle.sf_sym.specs.Variables.{with_fresh}
 use Rattle.sf_rules.specs.declared.few.TheConstants.{TOO_MANY}
-use Rattle.sf_rules.specs.Rows.Regions.{variables_from}
+use Rattle.sf_rules.specs.Resources.{variables_from}
 use Rattle.sf_rules.proofs.RegionRows.{entered_left, entered_many, length_variables}
 use Rattle.sf_rules.proofs.regions.enter_region.Goals as goal
 

@@ -5,7 +5,8 @@ use Rattle.sf_core.proofs.Inits.{sets_up-is}
 use Rattle.sf_core.specs.Program.Init.{is_init}
 use Rattle.sf_core.specs.Program.ProgramView.{program_of}
 use Rattle.sf_core.specs.Program.View.{procedure_of}
-use Rattle.sf_rules.specs.First.{links_of, own_vars, variables_of, with_held}
+use Rattle.sf_rules.specs.First.{links_of, own_vars, with_held}
+use Rattle.sf_rules.specs.Resources.{variables_of}
 use Rattle.sf_rules.proofs.Firsts.{own_firsts-below, own_firsts-order}
 use Rattle.sf_sym.specs.State.{first_state}
 use Rattle.sf_rules.proofs.start.first_state.Goals as goal

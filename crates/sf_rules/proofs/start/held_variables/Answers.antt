@@ -4,7 +4,7 @@ use Rattle.std.proofs.lemmas.Result.{IfOk-weaker}
 use Rattle.std.specs.List.{flat_map}
 use Rattle.sf_base.specs.declared.ids.ResId.{ResId}
 use Rattle.sf_core.specs.Program.ProgramView.{program_of}
-use Rattle.sf_rules.specs.First.{variables_of}
+use Rattle.sf_rules.specs.Resources.{variables_of}
 use Rattle.sf_rules.proofs.FirstRows.{held_there}
 use Rattle.sf_rules.proofs.start.held_variables.Goals as goal
 

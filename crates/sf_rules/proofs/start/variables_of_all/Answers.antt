@@ -8,7 +8,7 @@ use Rattle.sf_base.proofs.Lookup.{get-read_map}
 use Rattle.sf_base.specs.declared.ids.ResId.{ResId}
 use Rattle.sf_core.specs.Program.ProgramView.{program_of}
 use Rattle.sf_core.specs.Program.View.{resource_of}
-use Rattle.sf_rules.specs.First.{variables_of}
+use Rattle.sf_rules.specs.Resources.{variables_of}
 use Rattle.sf_rules.proofs.FirstRows.{few_held, more_variables, no_variables}
 use Rattle.sf_calls.specs.Checked.Lemmas.InOrder.{variables_bound}
 use Rattle.sf_rules.proofs.start.variables_of_all.Goals as goal

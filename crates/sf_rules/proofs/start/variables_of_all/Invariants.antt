@@ -1,7 +1,7 @@
 use Rattle.std.proofs.Common.{◌≡◌, ◌++◌, length}
 use Rattle.std.specs.List.{flat_map}
 use Rattle.sf_core.specs.Program.ProgramView.{program_of}
-use Rattle.sf_rules.specs.First.{variables_of}
+use Rattle.sf_rules.specs.Resources.{variables_of}
 use Rattle.sf_rules.proofs.start.variables_of_all.Given as goal
 
 abbrev pub invariant-loop-r : goal.invariant-loop-r

@@ -13,8 +13,9 @@ use Rattle.sf_core.specs.declared.assertion.Test.{Test}
 use Rattle.sf_core.specs.declared.command.Expr.{Expr}
 use Rattle.sf_core.specs.declared.command.Occurrence.{Occurrence}
 use Rattle.sf_core.specs.Program.Syntax.{Block, assign, look_up, mutate, new, dispose, if}
-use Rattle.sf_rules.specs.Rows.Branches.{branch_row}
-use Rattle.sf_rules.specs.Rows.Commands.{assign_row, look_row, mutate_row, new_row, dispose_row, looked, with_var}
+use Rattle.sf_rules.specs.Checked.Rows.Branches.{branch_row}
+use Rattle.sf_rules.specs.Checked.Rows.Commands.{assign_row, look_row, mutate_row, new_row, dispose_row, looked}
+use Rattle.sf_rules.specs.Rules.{with_var}
 use Rattle.sf_rules.specs.Checked.Lemmas.VariableTerms.{set-listed, set-order}
 use Rattle.sf_sym.specs.Cells.{cell_at, with_fields, without}
 use Rattle.sf_sym.specs.Decided.{command_test, is_decided}
@@ -26,7 +27,8 @@ use Rattle.sf_sym.specs.Fields.{field_term, put_term}
 use Rattle.sf_sym.specs.Goal.{Item, run, Goal, one_goal, to_run}
 use Rattle.sf_sym.specs.Checked.Lemmas.{put-order}
 use Rattle.sf_sym.specs.Checked.Lemmas.AtomLists.{at-all, at-cell, with_fields-all, without-all}
-use Rattle.sf_sym.specs.Ready.{AreInOrder, HasOrder, is_listed}
+use Rattle.sf_sym.specs.Ready.{HasOrder, is_listed}
+use Rattle.sf_sym.specs.Variables.{AreInOrder}
 use Rattle.sf_sym.specs.State.{State, term, with_symbols}
 
 -- the state's lists are in order

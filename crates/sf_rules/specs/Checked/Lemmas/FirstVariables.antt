@@ -11,8 +11,8 @@ use Rattle.sf_base.specs.Variables.{same_var}
 use Rattle.sf_rules.specs.First.{nils, symbols}
 use Rattle.sf_sym.specs.declared.term.Term.{Term}
 use Rattle.sf_sym.specs.declared.term.Term.TheVariants.{Nil, Sym}
-use Rattle.sf_sym.specs.Ready.{AreInOrder, is_listed}
-use Rattle.sf_sym.specs.Variables.{comes_before}
+use Rattle.sf_sym.specs.Ready.{is_listed}
+use Rattle.sf_sym.specs.Variables.{AreInOrder, comes_before}
 
 -- OWN VARIABLES
 module _ (P : Var × Term → Type 0) where

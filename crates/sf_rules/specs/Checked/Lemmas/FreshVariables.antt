@@ -13,8 +13,8 @@ use Rattle.sf_core.specs.declared.command.Occurrence.{Occurrence}
 use Rattle.sf_core.specs.Program.Syntax.{Call}
 use Rattle.sf_rules.specs.declared.few.TheConstants.{TOO_MANY}
 use Rattle.sf_rules.specs.First.{nil_for}
-use Rattle.sf_rules.specs.Rows.Calls.{callee_term, own_term, term_after, term_before, term_by}
-use Rattle.sf_rules.specs.Rows.Regions.{variables_from}
+use Rattle.sf_rules.specs.Callee.{callee_term, own_term, term_after, term_before, term_by}
+use Rattle.sf_rules.specs.Resources.{variables_from}
 use Rattle.sf_sym.specs.Below.{AllPaired, IsBelow}
 use Rattle.sf_sym.specs.declared.term.Term.{Term}
 use Rattle.sf_sym.specs.Checked.Lemmas.Below.{below-symbol}

@@ -1,6 +1,6 @@
 -- Each row of the table is a rule.
--- Names: `WORD-FACT` of a word of the rules, `TAG-rule` of the row of that tag.
-use Rattle.std.proofs.Common.{◌≡◌, ◌≢◌, ◌⊎◌, inl, inr, ℕ, ◌+◌, ◌==◌, ◌&&◌, ◌||◌, not, Bool, true, false, cond, get_or, is_some, length, length-append, nat_lt, Option, Some, None, List, [], ◌∷◌, ◌++◌, refl, sym, ap, ◌∙◌, subst}
+-- Names: `TAG-rule` of the row of that tag.
+use Rattle.std.proofs.Common.{◌≡◌, inl, inr, ℕ, ◌+◌, ◌&&◌, ◌||◌, not, Bool, true, false, length, length-append, nat_lt, Option, Some, None, List, [], ◌∷◌, ◌++◌, refl, sym, ap, ◌∙◌, subst}
 use Rattle.std.specs.Prelude.{set}
 use Rattle.std.specs.List.{slice_get}
 use Rattle.std.specs.Option.{option_and_then, option_map}
@@ -9,33 +9,34 @@ use Rattle.std.proofs.lemmas.Option.{cond_some, option_and_then_some, same_Some}
 use Rattle.sf_base.specs.declared.ids.FieldId.{FieldId}
 use Rattle.sf_base.specs.declared.place.Place.{Place}
 use Rattle.sf_calls.specs.Changes.{changed}
-use Rattle.sf_consume.specs.Subtract.{Fit, Want, apart_step, bind_step, binding, both, cell_step, empty_step, exact_step, exact_there, first_of, fit_existential, fit_field, fit_fields, fit_known, fitting, handed_cell, head_step, is_same_shape, join_step, joined, link, linked, node_step, one_binding, removed, same_step, unbound, wanted_shape}
+use Rattle.sf_consume.specs.Subtract.{Fit, Want, apart_step, bind_step, binding, both, cell_step, empty_step, exact_step, exact_there, fit_fields, fitting, handed_cell, head_step, is_same_shape, join_step, joined, link, node_step, one_binding, removed, same_step, unbound, wanted_shape}
 use Rattle.sf_consume.specs.Wants.{still_wanted}
 use Rattle.sf_core.specs.declared.assertion.Operand.{Operand}
-use Rattle.sf_core.specs.declared.assertion.Operand.TheVariants.{Known, Exists}
+use Rattle.sf_core.specs.declared.assertion.Operand.TheVariants.{Known}
 use Rattle.sf_core.specs.declared.assertion.Test.TheVariants.{True, Equal, Differ}
-use Rattle.sf_core.specs.Program.Syntax.{Call, Conjunct, Conjuncts, also, holds, points, segment, tree, choose, assign, look_up, mutate, new, dispose, if, while, call, fork, with, Procedure}
+use Rattle.sf_core.specs.Program.Syntax.{Conjunct, Conjuncts, also, holds, points, segment, tree, choose, assign, look_up, mutate, new, dispose, if, while, call, fork, with}
 use Rattle.sf_normal.specs.Knowledge.{absurd_row, drop_row, force_row, split_row, unroll_row, unroll_one, unrolled_segment, unrolled_tree}
-use Rattle.sf_produce.specs.Add.{Met, met, met_existential, met_fields}
+use Rattle.sf_produce.specs.Add.{met, met_fields}
 use Rattle.sf_rules.specs.declared.few.TheConstants.{TOO_MANY}
 use Rattle.sf_rules.specs.Checked.Lemmas.FreshVariables.{fresh-length}
-use Rattle.sf_rules.specs.Checked.Lemmas.RuleRows.{fields-same, fit, term-self}
-use Rattle.sf_rules.specs.Few.{has_numbers}
-use Rattle.sf_rules.specs.Rows.Add.{assume_row}
-use Rattle.sf_rules.specs.Rows.Branches.{branch_row, chosen}
-use Rattle.sf_rules.specs.Rows.Calls.{call_row, called, fork_row, forked, give_row}
-use Rattle.sf_rules.specs.Rows.Commands.{assign_row, dispose_row, look_row, looked, mutate_row, new_row}
-use Rattle.sf_rules.specs.Rows.Ends.{end_row, is_empty, return_row}
-use Rattle.sf_rules.specs.Rows.Front.{at_add, at_again, at_command, at_end, at_exit, at_gave, at_head, at_return, at_take}
-use Rattle.sf_rules.specs.Rows.Loops.{again_row, around_row, loop_row}
-use Rattle.sf_rules.specs.Rows.Regions.{enter_row, entered, exit_row}
-use Rattle.sf_rules.specs.Rows.Take.{subtract_row}
-use Rattle.sf_rules.specs.Rows.Whole.{row, row_of}
+use Rattle.sf_rules.specs.Checked.Lemmas.RowParts.{and-both, not-true, cond-then, mapped, tests-apart, forced-spans, nothing-spans, shape-same, cell-atom, both-terms, link-field, fit-fits, met-meets, states-then, fields-meet, unbound-is, first-one}
+use Rattle.sf_rules.specs.Checked.Lemmas.RuleRows.{fields-same, fit}
+use Rattle.sf_rules.specs.Rules.{has_numbers, Leaves, Rule, Spans, list_spans, tree_spans, Goes, command_goes, assumed_goes, shown_goes, Meets, has, met_first, MeetsAll, all_met, one_met, FieldIs, known, missing, Fits, all_fit, fits_known, fits_new, Wanted, list_wanted, tree_wanted, needed, needed_to_assume, needed_to_show, next_at, assume, assume_rest, show, show_rest, ◌⊢◌}
+use Rattle.sf_rules.specs.Checked.Rows.Add.{assume_row}
+use Rattle.sf_rules.specs.Checked.Rows.Branches.{branch_row, chosen}
+use Rattle.sf_rules.specs.Checked.Rows.Calls.{call_row, called, fork_row, forked, give_row}
+use Rattle.sf_rules.specs.Checked.Rows.Commands.{assign_row, dispose_row, look_row, looked, mutate_row, new_row}
+use Rattle.sf_rules.specs.Checked.Rows.Ends.{end_row, is_empty, return_row}
+use Rattle.sf_rules.specs.Checked.Rows.Front.{at_add, at_again, at_command, at_end, at_exit, at_gave, at_head, at_return, at_take}
+use Rattle.sf_rules.specs.Checked.Rows.Loops.{again_row, around_row, loop_row}
+use Rattle.sf_rules.specs.Checked.Rows.Regions.{enter_row, entered, exit_row}
+use Rattle.sf_rules.specs.Checked.Rows.Take.{subtract_row}
+use Rattle.sf_rules.specs.Checked.Rows.Whole.{row, row_of}
 use Rattle.sf_rules.specs.Rules as rule
-use Rattle.sf_rules.specs.Rules.{Leaves, Rule, Spans, list_spans, tree_spans, Goes, command_goes, assumed_goes, shown_goes, Meets, has, met_first, MeetsAll, all_met, one_met, FieldIs, known, missing, Fits, all_fit, fits_known, fits_new, Wanted, list_wanted, tree_wanted, needed, needed_to_assume, needed_to_show, next_at, assume, assume_rest, show, show_rest, ◌⊢◌}
+use Rattle.sf_rules.specs.Rules.{IsElsewhere}
 use Rattle.sf_rules.specs.Setting.{Setting}
 use Rattle.sf_sym.specs.Below.{is_below}
-use Rattle.sf_sym.specs.Cells.{atom_at, cell_at, fields_at, handed, state_after_write, with_atom, with_cell, without}
+use Rattle.sf_sym.specs.Cells.{atom_at, cell_at, handed, state_after_write, with_atom, with_cell, without}
 use Rattle.sf_sym.specs.Checked.Lemmas.{same_term_is}
 use Rattle.sf_sym.specs.Decided.{command_test, is_decided, term_of, test_of_terms}
 use Rattle.sf_sym.specs.declared.atom.Atom.{Atom}
@@ -46,193 +47,13 @@ use Rattle.sf_sym.specs.declared.tag.Tag.TheVariants as tag
 use Rattle.sf_sym.specs.declared.term.Term.{Term}
 use Rattle.sf_sym.specs.declared.term.Term.TheVariants.{Nil}
 use Rattle.sf_sym.specs.Equalities.{assumed_apart, assumed_equal}
-use Rattle.sf_sym.specs.Fields.{field_term, put_term}
+use Rattle.sf_sym.specs.Fields.{field_term}
 use Rattle.sf_sym.specs.Goal.{Goal, Item, one_goal, run, add, take, gave, head, again, exit, return, end, adding, taking}
-use Rattle.sf_sym.specs.Known.{ends, is_forced, is_nothing}
+use Rattle.sf_sym.specs.Known.{forced_pair, is_nothing}
 use Rattle.sf_sym.specs.Pending.{existentials_in, one_if_existential}
 use Rattle.sf_sym.specs.State.{State, term}
 use Rattle.sf_sym.specs.Tests.{allocated, differs, is_absurd, is_constant, same_term}
 use Rattle.sf_sym.specs.Variables.{fresh_for, set_var}
-
--- BOOLEANS
-and-both : (a b : Bool) → (a && b) ≡ true → (a ≡ true) × (b ≡ true)
-and-both true b e = (refl, e)
-and-both false b e = absurd (cc)
-
-not-true : (b : Bool) → not b ≡ true → b ≡ false
-not-true true e = absurd (cc)
-not-true false e = refl
-
--- OPTIONS
-cond-then : {A : Type 0} (b : Bool) (o : Option A) (y : A) → cond b o None ≡ Some y
-    → (b ≡ true) × (o ≡ Some y)
-cond-then true o y e = (refl, e)
-cond-then false o y e = absurd (cc)
-
-mapped : {A B P : Type 0} (f : A → B) (o : Option A) (y : B) → option_map f o ≡ Some y
-    → ((x : A) → o ≡ Some x → f x ≡ y → P) → P
-mapped f None y e then = absurd (cc)
-mapped f (Some x) y e then = then x refl (same_Some (f x) y e)
-
--- TERMS AND ATOMS
-tests-apart : (t u : Term) → same_term t u ≡ false → t ≢ u
-tests-apart t u f e = let s : same_term t u ≡ true =
-    subst (λ v. same_term t v ≡ true) e (term-self t) in absurd (cc)
-
-ends-span : (x : Atom) (t u : Term) → ends x ≡ Some (t, u) → Spans x t u
-ends-span (Points v fs) t u e = absurd (cc)
-ends-span (Ls v w) t u e =
-    subst (λ z. Spans (Ls v w) z.0 z.1) (same_Some (v, w) (t, u) e) (list_spans {t = v} {u = w})
-ends-span (Tree v) t u e =
-    subst (λ z. Spans (Tree v) z.0 z.1) (same_Some (v, Nil) (t, u) e) (tree_spans {t = v})
-
-nothing-spans : (x : Atom) → is_nothing x ≡ true → (t : Term) × Spans x t t
-nothing-spans (Points v fs) e = absurd (cc)
-nothing-spans (Ls v w) e =
-    (v, subst (λ z. Spans (Ls v w) v z) (sym (same_term_is v w e)) (list_spans {t = v} {u = w}))
-nothing-spans (Tree v) e =
-    (v, subst (λ z. Spans (Tree v) v z) (sym (same_term_is v Nil e)) (tree_spans {t = v}))
-
-shape-same : (x y : Atom) → is_same_shape x y ≡ true → x ≡ y
-shape-same (Ls t u) (Ls v w) e =
-    let parts = and-both (same_term t v) (same_term u w) e in
-    ap (λ z. Ls z u) (same_term_is t v parts.0) ∙ ap (λ z. Ls v z) (same_term_is u w parts.1)
-shape-same (Tree t) (Tree v) e = ap Tree (same_term_is t v e)
-shape-same _ _ e = absurd (cc)
-
-pub cell-atom : (xs : List Numbered) (a : ℕ) (t : Term) (fs : List (FieldId × Term))
-    → cell_at xs a t ≡ Some fs → atom_at xs a ≡ Some (Points t fs)
-cell-atom [] a t fs e = absurd (cc)
-cell-atom (x ∷ xs) a t fs e = go (x.number == a) (cell-atom xs a t fs) e
-  where
-    points-at : (y : Atom) → fields_at y t ≡ Some fs → y ≡ Points t fs
-    points-at (Points r gs) e =
-        let k = cond_some (same_term r t) gs fs e in
-        let one : r ≡ t = same_term_is r t k.0 in
-        let two : gs ≡ fs = k.1 in
-        cc
-    points-at _ e = absurd (cc)
-
-    go : (b : Bool) → (cell_at xs a t ≡ Some fs → atom_at xs a ≡ Some (Points t fs))
-        → cond b (fields_at x.atom t) (cell_at xs a t) ≡ Some fs
-        → cond b (Some x.atom) (atom_at xs a) ≡ Some (Points t fs)
-    go true others e = ap Some (points-at x.atom e)
-    go false others e = others e
-
-both-terms : (terms : List (Option Term)) (x y : Operand Term) (e : Term × Term)
-    → both terms x y ≡ Some e
-    → (term_of terms x ≡ Some e.0) × (term_of terms y ≡ Some e.1)
-both-terms terms x y e k = option_and_then_some _ (term_of terms x) e k (λ t at j.
-    mapped _ (term_of terms y) e j (λ u also_at is.
-    (at ∙ ap (λ (z : Term × Term). Some z.0) is, also_at ∙ ap (λ (z : Term × Term). Some z.1) is)))
-
--- FIELDS
-link-field : (n : ℕ) (fs : List (FieldId × Term)) (f : FieldId) (terms : List (Option Term))
-    → (let l = link (fit n fs terms) f in
-    FieldIs n fs f l.1 l.0.next_sym l.0.fields × (l.0.bindings ≡ terms))
-link-field n fs f terms = go (field_term fs f) refl
-  where
-    go : (o : Option Term) → field_term fs f ≡ o
-        → (let l = linked (fit n fs terms) f o in
-        FieldIs n fs f l.1 l.0.next_sym l.0.fields × (l.0.bindings ≡ terms))
-    go None e = (missing e, refl)
-    go (Some t) e = (known e, refl)
-
-module _ (n m : ℕ) (fs gs : List (FieldId × Term)) (terms ends : List (Option Term)) (f : FieldId)
-    (ws : List (FieldId × Operand Term)) (to : Fit)
-    (rest : Fits to.next_sym to.fields to.bindings ws m gs ends) where
-  fit-same : (x : Operand Term) (u : Term) → term_of terms x ≡ Some u → (o : Option Term)
-      → field_term fs f ≡ o
-      → fit_known (fit n fs terms) o u ≡ Some to → Fits n fs terms ((f, x) ∷ ws) m gs ends
-  fit-same x u wanted None at e = absurd (cc)
-  fit-same x u wanted (Some t) at e =
-      let b = cond_some (same_term t u) _ to e in
-      fits_known wanted (at ∙ ap Some (same_term_is t u b.0))
-      (subst (λ z. Fits z.next_sym z.fields z.bindings ws m gs ends) (sym b.1) rest)
-
-  fit-one : (x : Operand Term) → fit_field (fit n fs terms) (f, x) ≡ Some to
-      → Fits n fs terms ((f, x) ∷ ws) m gs ends
-  fit-one (Known u) e = fit-same (Known u) u refl (field_term fs f) refl e
-  fit-one (Exists k) e = go (get_or terms k None) refl e
-    where
-      go : (o : Option Term) → get_or terms k None ≡ o
-          → fit_existential (fit n fs terms) f k o ≡ Some to
-          → Fits n fs terms ((f, Exists k) ∷ ws) m gs ends
-      go (Some u) at e = fit-same (Exists k) u at (field_term fs f) refl e
-      go None at e =
-          let l = link (fit n fs terms) f in
-          let field = link-field n fs f terms in
-          let is : to ≡ fit l.0.next_sym l.0.fields (set terms k (Some l.1)) =
-          sym (same_Some _ to e)
-          ∙ ap (λ b. fit l.0.next_sym l.0.fields (set b k (Some l.1))) field.1 in
-          fits_new at field.0
-          (subst (λ z. Fits z.next_sym z.fields z.bindings ws m gs ends) is rest)
-
-fit-fits : (n : ℕ) (fs : List (FieldId × Term)) (terms : List (Option Term))
-    (ws : List (FieldId × Operand Term)) (to : Fit)
-    → fit_fields (fit n fs terms) ws ≡ Some to
-    → Fits n fs terms ws to.next_sym to.fields to.bindings
-fit-fits n fs terms [] to e =
-    subst (λ z. Fits n fs terms [] z.next_sym z.fields z.bindings) (same_Some _ to e)
-    (all_fit {n = n} {fs = fs} {terms = terms})
-fit-fits n fs terms ((f, x) ∷ ws) to e =
-    option_and_then_some (λ z. fit_fields z ws) (fit_field (fit n fs terms) (f, x)) to e
-    (λ one here more.
-    fit-one n to.next_sym fs to.fields terms to.bindings f ws one
-    (fit-fits one.next_sym one.fields one.bindings ws to more) x here)
-
--- OPERANDS THAT ARE ASSUMED
--- a met operand, and that its state is the one before with another next symbol
-abbrev MeetsAs : State → List (Option Term) → Operand Term → Met → Type 0
-MeetsAs s terms x m =
-    Meets s.next_sym terms x m.term m.state.next_sym m.bindings
-    × (next_at m.state.next_sym s ≡ m.state)
-
-met-meets : (s : State) (terms : List (Option Term)) (x : Operand Term)
-    → MeetsAs s terms x (met s terms x)
-met-meets s terms (Known t) = (has refl, refl)
-met-meets s terms (Exists k) = go (get_or terms k None) refl
-  where
-    go : (o : Option Term) → get_or terms k None ≡ o
-        → MeetsAs s terms (Exists k) (met_existential s terms k o)
-    go None e = (met_first e, refl)
-    go (Some t) e = (has e, refl)
-
--- two states in turn
-states-then : (s t u : State) → next_at t.next_sym s ≡ t → next_at u.next_sym t ≡ u
-    → next_at u.next_sym s ≡ u
-states-then s t u one two = ap (next_at u.next_sym) one ∙ two
-
-fields-meet : (s : State) (terms : List (Option Term)) (ws : List (FieldId × Operand Term))
-    (made : List (FieldId × Term))
-    → (let m = met_fields s terms ws made in
-    MeetsAll s.next_sym terms made ws m.state.next_sym m.bindings m.fields
-    × (next_at m.state.next_sym s ≡ m.state))
-fields-meet s terms [] made = (all_met, refl)
-fields-meet s terms ((f, x) ∷ ws) made =
-    let one = met s terms x in
-    let here = met-meets s terms x in
-    let last = met_fields one.state one.bindings ws (put_term f one.term made) in
-    let others = fields-meet one.state one.bindings ws (put_term f one.term made) in
-    (one_met here.0 others.0, states-then s one.state last.state here.1 others.1)
-
--- EXISTENTIALS WITHOUT A TERM
-unbound-is : (terms : List (Option Term)) (x : Operand Term) (n : ℕ) → unbound terms x ≡ Some n
-    → (x ≡ Exists n) × (get_or terms n None ≡ None)
-unbound-is terms (Known u) n e = absurd (cc)
-unbound-is terms (Exists k) n e = go (get_or terms k None) refl e
-  where
-    go : (o : Option Term) → get_or terms k None ≡ o → cond (is_some o) None (Some k) ≡ Some n
-        → (◌≡◌ {A = Operand Term} (Exists k) (Exists n)) × (get_or terms n None ≡ None)
-    go (Some u) at e = absurd (cc)
-    go None at e =
-        let i : k ≡ n = same_Some k n e in
-        (ap (λ z. Exists z) i, subst (λ z. get_or terms z None ≡ None) i at)
-
-first-one : {X : Type 0} (o p : Option X) (x : X) → first_of o p ≡ Some x
-    → (o ≡ Some x) ⊎ (p ≡ Some x)
-first-one (Some y) p x e = inl e
-first-one None p x e = inr e
 
 -- the rule that leaves these goals, where others are the same
 leaves : {d : Setting} {s : State} {todo : List Item} {tag : Tag} (made left : List Goal)
@@ -261,12 +82,11 @@ module _ (d : Setting) (s : State) (left : List Goal) where
   force-rule : (todo : List Item) (a : ℕ) → force_row (s ⊢ todo) a ≡ Some left
       → Rule d s todo (tag.Force a) left
   force-rule todo a e =
-      option_and_then_some _ (option_and_then ends (atom_at s.atoms a)) left e (λ v there k.
-      option_and_then_some ends (atom_at s.atoms a) v there (λ x at is.
-      let b = cond_some (is_forced s a v) _ left k in
-      let both = and-both (not (same_term v.0 v.1)) _ b.0 in
-      leaves _ left b.1 (rule.force at (ends-span x v.0 v.1 is)
-      (tests-apart v.0 v.1 (not-true (same_term v.0 v.1) both.0)) both.1)))
+      mapped (λ (v : Term × Term). assumed_equal v.0 v.1 (s ⊢ todo) ∷ [])
+      (option_and_then (forced_pair s a) (atom_at s.atoms a)) left e (λ v there k.
+      option_and_then_some (forced_pair s a) (atom_at s.atoms a) v there (λ x at is.
+      let f = forced-spans s a x v is in
+      leaves _ left k (rule.force at f.0 (tests-apart v.0 v.1 f.1) f.2)))
 
   split-rule : (todo : List Item) (t u : Term) → split_row (s ⊢ todo) t u ≡ Some left
       → Rule d s todo (tag.Split t u) left

@@ -12,14 +12,14 @@ use Rattle.sf_core.specs.declared.assertion.Operand.TheVariants.{Known, Exists}
 use Rattle.sf_produce.specs.Add.{Met, MetFields, met, met_fields}
 use Rattle.sf_rules.specs.Checked.Lemmas.FreshVariables.{fresh-length}
 use Rattle.sf_rules.specs.declared.few.TheConstants.{TOO_MANY}
-use Rattle.sf_rules.specs.Rows.Branches.{branch_row}
-use Rattle.sf_rules.specs.Rows.Whole.{row, row_of}
+use Rattle.sf_rules.specs.Checked.Rows.Branches.{branch_row}
+use Rattle.sf_rules.specs.Checked.Rows.Whole.{row, row_of}
 use Rattle.sf_rules.specs.Rules as rule
 use Rattle.sf_rules.specs.Rules.{Leaves, Rule, Spans, list_spans, tree_spans, Goes, command_goes, assumed_goes, shown_goes, Meets, has, met_first, MeetsAll, all_met, one_met, FieldIs, known, missing, Fits, all_fit, fits_known, fits_new, list_wanted, tree_wanted, needed, next_at, ◌⊢◌}
 use Rattle.sf_rules.specs.Setting.{Setting}
 use Rattle.sf_sym.specs.Cells.{atom_at, cell_at, fields_at, with_fields}
 use Rattle.sf_sym.specs.Checked.Lemmas.{same_term_is}
-use Rattle.sf_sym.specs.Known.{ends, is_nothing}
+use Rattle.sf_sym.specs.Known.{forced_pair, is_elsewhere, is_nothing}
 use Rattle.sf_sym.specs.Tests.{same_term}
 use Rattle.sf_sym.specs.Goal.{Goal, Item}
 use Rattle.sf_sym.specs.State.{State}
@@ -48,9 +48,10 @@ terms-differ t u n = go (same_term t u) refl
     go false e = refl
 
 -- ATOMS
-spans-ends : (x : Atom) (t u : Term) → Spans x t u → ends x ≡ Some (t, u)
-spans-ends _ _ _ list_spans = refl
-spans-ends _ _ _ tree_spans = refl
+spans-forced : (s : State) (a : ℕ) (x : Atom) (t u : Term) → Spans x t u → same_term t u ≡ false
+    → is_elsewhere s a t ≡ true → forced_pair s a x ≡ Some (t, u)
+spans-forced s a _ _ _ list_spans e f = rw (e, f) refl
+spans-forced s a _ _ _ tree_spans e f = rw (e, f) refl
 
 spans-nothing : (x : Atom) (t u : Term) → Spans x t u → t ≡ u → is_nothing x ≡ true
 spans-nothing _ _ _ (list_spans {t = t} {u = u}) e = terms-same t u e
@@ -158,7 +159,7 @@ pub rule-row : (d : Setting) (s : State) (todo : List Item) (tag : Tag) (left : 
 rule-row d s _ _ _ few (rule.absurd_state e) = rw e refl
 rule-row d s _ _ _ few (rule.drop there spans) = rw (there, spans-nothing _ _ _ spans refl) refl
 rule-row d s _ _ _ few (rule.force there spans differ elsewhere) =
-    rw (there, spans-ends _ _ _ spans, terms-differ _ _ differ, elsewhere) refl
+    rw (there, spans-forced s _ _ _ _ spans (terms-differ _ _ differ) elsewhere) refl
 rule-row d s _ _ _ few (rule.split differ one two) = rw (terms-differ _ _ differ, one, two) refl
 rule-row d s _ _ _ few (rule.unroll_list there differ tl) = rw (there, differ, tl) refl
 rule-row d s _ _ _ few (rule.unroll_tree there differ l r) = rw (there, differ, l, r) refl

@@ -19,7 +19,7 @@ use Rattle.sf_core.specs.Program.Syntax.{Conjunct, holds, points, segment, tree,
 use Rattle.sf_normal.specs.Knowledge.{absurd_row, drop_row, force_row, split_row, unroll_row, unrolled, unrolled_segment, unrolled_tree}
 use Rattle.sf_produce.specs.Add.{add_first, add_row, added, goal_after, met, met_both, met_existential, met_fields}
 use Rattle.sf_rules.specs.HasVariables.{TodoReadsIn}
-use Rattle.sf_rules.specs.Rows.Branches.{branch_row, chosen}
+use Rattle.sf_rules.specs.Checked.Rows.Branches.{branch_row, chosen}
 use Rattle.sf_rules.specs.Checked.Lemmas.CommandChildren.{IsOrdered}
 use Rattle.sf_rules.specs.Checked.Lemmas.Forms.{adding-assuming, same-form, with-form}
 use Rattle.sf_rules.specs.Checked.Lemmas.TodoReads.{adding-reads, with-reads}
@@ -33,11 +33,12 @@ use Rattle.sf_sym.specs.declared.term.Term.TheVariants.{Sym}
 use Rattle.sf_sym.specs.Equalities.{assumed_apart, assumed_equal, atom_with, numbered_with, put_for, state_with, which_goes, with_one}
 use Rattle.sf_sym.specs.Fields.{AreAfter, AreOrdered, put_term}
 use Rattle.sf_sym.specs.Goal.{Item, add, Goal, adding, one_goal}
-use Rattle.sf_sym.specs.Known.{ends, is_forced, is_nothing}
+use Rattle.sf_sym.specs.Known.{ends, forced_pair, is_nothing}
 use Rattle.sf_sym.specs.Checked.Lemmas.{put-order}
 use Rattle.sf_sym.specs.Checked.Lemmas.AtomLists.{without-all}
 use Rattle.sf_sym.specs.Pending.{Pending}
-use Rattle.sf_sym.specs.Ready.{AreInOrder, HasOrder, is_listed}
+use Rattle.sf_sym.specs.Ready.{HasOrder, is_listed}
+use Rattle.sf_sym.specs.Variables.{AreInOrder}
 use Rattle.sf_sym.specs.Shape.{HasForm, IsAssuming}
 use Rattle.sf_sym.specs.State.{State, with_symbols}
 use Rattle.sf_sym.specs.Tests.{differs, is_absurd, same_term}
@@ -204,19 +205,12 @@ drop-stays goal left a o row = go (atom_at goal.state.atoms a) row
 
 pub force-stays : (goal : Goal) (left : List Goal) (a : ℕ) → IsOrdered goal.state → force_row goal a ≡ Some left
     → AllStay goal left
-force-stays goal left a o row = go (option_and_then ends (atom_at goal.state.atoms a)) row
+force-stays goal left a o row = go (option_and_then (forced_pair goal.state a) (atom_at goal.state.atoms a)) row
   where
-    step : (e : Term × Term) (b : Bool) → cond b (Some (assumed_equal e.0 e.1 goal ∷ [])) None ≡ Some left
-        → AllStay goal left
-    step e true i = one-stays goal (assumed_equal e.0 e.1 goal) left i (equal_goal-stays e.0 e.1 goal o)
-    step e false i = absurd (cc)
-
-    go : (x : Option (Term × Term))
-        → option_and_then (λ e. cond (is_forced goal.state a e) (Some
-        (assumed_equal e.0 e.1 goal ∷ [])) None) x ≡ Some left
+    go : (x : Option (Term × Term)) → option_map (λ e. assumed_equal e.0 e.1 goal ∷ []) x ≡ Some left
         → AllStay goal left
     go None e = absurd (cc)
-    go (Some x) e = step x (is_forced goal.state a x) e
+    go (Some v) e = one-stays goal (assumed_equal v.0 v.1 goal) left e (equal_goal-stays v.0 v.1 goal o)
 
 pub split-stays : (goal : Goal) (left : List Goal) (t u : Term) → IsOrdered goal.state
     → split_row goal t u ≡ Some left

@@ -10,8 +10,8 @@ use Rattle.sf_consume.specs.Subtract.{Fit, Step, Want, apart_step, bind_step, bi
 use Rattle.sf_consume.specs.Wants.{still_wanted, wanting}
 use Rattle.sf_core.specs.Program.Syntax.{Conjunct, Conjuncts, none, also}
 use Rattle.sf_rules.specs.Checked.Lemmas.{few-left}
-use Rattle.sf_rules.specs.Rows.Branches.{branch_row, chosen}
-use Rattle.sf_rules.specs.Rows.Take.{subtract_row}
+use Rattle.sf_rules.specs.Checked.Rows.Branches.{branch_row, chosen}
+use Rattle.sf_rules.specs.Checked.Rows.Take.{subtract_row}
 use Rattle.sf_sym.specs.Cells.{atom_at, cell_at, handed}
 use Rattle.sf_sym.specs.Decided.{term_of}
 use Rattle.sf_sym.specs.declared.atom.Atom.{Atom}

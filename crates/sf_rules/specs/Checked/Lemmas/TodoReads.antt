@@ -4,7 +4,7 @@ use Rattle.std.proofs.Common.{ℕ, Bool, List, [], ◌∷◌, ◌++◌, map}
 use Rattle.sf_base.specs.declared.ids.Var.{Var}
 use Rattle.sf_base.specs.declared.place.Place.{Place}
 use Rattle.sf_core.specs.Program.Syntax.{Assertion, Block, done, then, Conjuncts, none, also, Program}
-use Rattle.sf_rules.specs.First.{variables_of}
+use Rattle.sf_rules.specs.Resources.{variables_of}
 use Rattle.sf_rules.specs.HasVariables.{BlockReadsIn, TodoReadsIn, without_those}
 use Rattle.sf_rules.specs.Words.{pending_assertion, to_take_each}
 use Rattle.sf_core.specs.declared.command.Expr.{Expr}

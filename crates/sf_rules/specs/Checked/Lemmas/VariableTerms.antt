@@ -11,15 +11,15 @@ use Rattle.sf_base.specs.declared.ids.Var.TheVariants.{Own, Shared}
 use Rattle.sf_base.specs.Variables.{same_var}
 use Rattle.sf_sym.specs.declared.term.Term.{Term}
 use Rattle.sf_sym.specs.Checked.Lemmas.KnownValues.{before-trans}
-use Rattle.sf_sym.specs.Ready.{AreInOrder, is_listed}
-use Rattle.sf_sym.specs.Variables.{comes_before, remove_var, remove_vars, set_var, set_vars}
+use Rattle.sf_sym.specs.Ready.{is_listed}
+use Rattle.sf_sym.specs.Variables.{AreInOrder, comes_before, remove_var, remove_vars, set_var, set_vars}
 
 -- the variable comes before each of them
 abbrev pub BeforeAll : Var → List (Var × Term) → Type 0
 BeforeAll x vs = AllByRecursion (λ (v : Var × Term). comes_before x v.0 ≡ true) vs
 
 -- of two different variables one comes before the other
-before-total : (x y : Var) → same_var y x ≡ false → comes_before x y ≡ false → comes_before y x ≡ true
+pub before-total : (x y : Var) → same_var y x ≡ false → comes_before x y ≡ false → comes_before y x ≡ true
 before-total (Own i) (Own j) n b = grind (arith, nat_tests)
 before-total (Own i) (Shared r j) n b = absurd (cc)
 before-total (Shared q i) (Own j) n b = refl

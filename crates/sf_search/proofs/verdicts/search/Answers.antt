@@ -2,8 +2,8 @@ use Rattle.std.proofs.Common.{◌≡◌, ◌<◌, length, subst, sym}
 use Rattle.std.proofs.lemmas.Result.{IfErr-weaker, IfOk-weaker}
 use Rattle.std.specs.List.{slice_get}
 use Rattle.sf_rules.specs.First.{first_goal}
-use Rattle.sf_search.proofs.Judging.{setting_length}
-use Rattle.sf_search.proofs.Leading.{at_index, some_at, some_weaker}
+use Rattle.sf_search.specs.Checked.Judging.{at_index, setting_length, some_at}
+use Rattle.sf_search.proofs.Leading.{some_weaker}
 use Rattle.sf_rules.specs.Checked.LawsOfShape.{IsSetUp}
 use Rattle.sf_search.specs.Checked.ShapeLaws.{ArrangedIsSetUp, GoalsHaveShape, KeepsShape}
 use Rattle.sf_search.specs.Ends.{EndsAs}

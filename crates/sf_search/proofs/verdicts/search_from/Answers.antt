@@ -5,7 +5,7 @@ use Rattle.sf_rules.specs.Checked.Children.{stack_of}
 use Rattle.sf_search.proofs.Leading.{Leads, leads_on, leads_end, no_goals, stack_push}
 use Rattle.sf_search.proofs.Reached.{IsReached, reached_first, reached_next, reached_row}
 use Rattle.sf_search.proofs.KnownNext.{known_of_first}
-use Rattle.sf_search.specs.Ends.{choice_of, kind_of}
+use Rattle.sf_search.proofs.Told.{told}
 use Rattle.sf_search.specs.Checked.Knowing.{IsKnownOfFirst}
 use Rattle.sf_search.specs.Judge.{large, proved, stuck}
 use Rattle.sf_sym.specs.Goal.{goal_of}
@@ -32,7 +32,7 @@ loop-goal-preserved g c =
     let reached = subst (AllByRecursion (IsReached g.d first (length tags))) stack c.loop-goal.invariant.reached in
     let known = subst (IsKnownOfFirst c.loop-goal.known) stack c.loop-goal.invariant.known in
     let left = c.in_ok-known.ensures.left in
-    let chosen = sym c.in_ok-tag.ensures ∙ ap choice_of c.in-Takes.is in
+    let chosen = sym c.in_ok-tag.ensures ∙ c.in-Takes.is in
     let next = left.3 in
     let longer : length c.follow.new.tags.items ≡ length tags + 1 =
     ap length c.in_ok-known.ensures.tags ∙ length-append tags (tag ∷ []) in
@@ -59,9 +59,10 @@ follow-requires g c =
     let stack = ap stack_of c.in-Some.ensures.items ∙ stack_push c.pop.new.self.items c.in-Some.goal in
     let reached = subst (AllByRecursion (IsReached g.d (goal_of c.args.first) (length c.loop-goal.tags.items))) stack
     c.loop-goal.invariant.reached in
-    let chosen = sym c.in_ok-tag.ensures ∙ ap choice_of c.in-Takes.is in
+    let chosen = sym c.in_ok-tag.ensures ∙ c.in-Takes.is in
     let left = reached_row g.d (goal_of c.args.first) c.requires.1.1 (length c.loop-goal.tags.items)
-    (goal_of c.in-Some.goal) c.in-Takes.tag c.loop-goal.invariant.count reached.0 chosen in
+    (goal_of c.in-Some.goal) c.in-Takes.tag c.loop-goal.invariant.count reached.0
+    (sym (told (goal_of c.in-Some.goal)) ∙ chosen) in
     (c.requires.0, (c.requires.1.0, ap is_some left.1))
 
 pub choose_knowing-requires-clause-settled : goal.choose_knowing-requires-clause-settled
@@ -85,8 +86,8 @@ returns-in-Stays-clause-err g c =
       record {
         chosen = leads_end g.d (goal_of c.args.first ∷ [])
             (goal_of c.in-Some.goal ∷ stack_of c.pop.new.self.items) c.loop-goal.tags.items
-            (stuck (goal_of c.in-Some.goal) (kind_of c.in-Stays.kind)) leads
-            (refl, sym c.in_ok-tag.ensures ∙ ap choice_of c.in-Stays.is);
+            (stuck (goal_of c.in-Some.goal) c.in-Stays.kind) leads
+            (refl, sym (told (goal_of c.in-Some.goal)) ∙ sym c.in_ok-tag.ensures ∙ c.in-Stays.is);
         within = c.loop-goal.invariant.count;
       },
     )
@@ -100,7 +101,7 @@ returns-then-len-eq-PROCEDURE_TAGS-clause-err g c =
       record {
         chosen = leads_end g.d (goal_of c.args.first ∷ [])
             (goal_of c.in-Some.goal ∷ stack_of c.pop.new.self.items) c.loop-goal.tags.items large leads
-            (c.in-Takes.tag, sym c.in_ok-tag.ensures ∙ ap choice_of c.in-Takes.is);
+            (c.in-Takes.tag, sym (told (goal_of c.in-Some.goal)) ∙ sym c.in_ok-tag.ensures ∙ c.in-Takes.is);
         within = search (rules, arith);
       },
     )

@@ -1,8 +1,8 @@
 use Rattle.std.proofs.Common.{◌+◌, ◌<◌, ◌≤◌, length, sym, subst, arith, rules}
 use Rattle.std.specs.List.{slice_get}
 use Rattle.sf_rules.specs.First.{first_goal}
-use Rattle.sf_search.proofs.Judging.{drop_all, judged_all, judged_fault, judged_next, judged_over, setting_length}
-use Rattle.sf_search.proofs.Leading.{at_index, some_at}
+use Rattle.std.proofs.Math.ListN.{drop_of_length-le}
+use Rattle.sf_search.specs.Checked.Judging.{at_index, judged_all, judged_fault, judged_next, judged_over, setting_length, some_at}
 use Rattle.sf_search.specs.Ends.{EndsAs, FailsAs}
 use Rattle.sf_search.specs.Judge.{Search, proved}
 use Rattle.sf_search.proofs.verdicts.verify.Goals as goal
@@ -49,5 +49,5 @@ returns-clause-ok g c =
     let count = setting_length g.d c.args.arranged.now c.requires.1 in
     let past : length c.args.arranged.now.program.procedures.items ≤ c.loop-i.i = search (rules, arith) in
     judged_all g.d c.loop-i.spent c.loop-i.i c.loop-i.tags.items
-    (drop_all g.d.program.procedures c.loop-i.i (subst (λ n. n ≤ c.loop-i.i) (sym count) past))
+    (drop_of_length-le g.d.program.procedures (subst (λ n. n ≤ c.loop-i.i) (sym count) past))
     c.loop-i.invariant.judged

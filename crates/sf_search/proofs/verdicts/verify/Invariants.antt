@@ -1,6 +1,6 @@
 use Rattle.std.proofs.Common.{◌≤◌, ◌-◌, length}
 use Rattle.sf_base.specs.declared.limits.TheConstants.{FILE_TAGS}
-use Rattle.sf_search.proofs.Judging.{Judged}
+use Rattle.sf_search.specs.Checked.Judging.{Judged}
 use Rattle.sf_search.proofs.verdicts.verify.Given as goal
 
 abbrev pub invariant-loop-i : goal.invariant-loop-i

@@ -1,4 +1,4 @@
-use Rattle.std.proofs.Common.{◌+◌, [], Ok, ap, arith, inr, refl, slice_get, subst, suc, take, false, true, inl, Err}
+use Rattle.std.proofs.Common.{◌+◌, Ok, ap, arith, inr, slice_get, subst, suc, take, false, true, inl, Err}
 use Rattle.std.proofs.lemmas.List.{length-map}
 use Rattle.sf_base.proofs.Options.{some-holds}
 use Rattle.sf_core.specs.Program.Syntax.{Procedure, Resource}
@@ -9,7 +9,7 @@ use Rattle.sf_precise.specs.Order.{IsOrderOf}
 use Rattle.sf_foot.specs.Starting.{assertions_of}
 use Rattle.sf_state.specs.declared.fault.StartFault.TheVariants.{Unmet}
 use Rattle.sf_state.specs.Checked.Found.{AlsoFound, AreFound, AllFound}
-use Rattle.sf_state.proofs.NextFound.{found-all, found-nothing, found-unmet, next-found, next-unmet, some-then, there-at, unmet-more}
+use Rattle.sf_state.proofs.NextFound.{found-all, next-found, next-unmet, some-then, there-at, unmet-more}
 use Rattle.sf_state.proofs.finding.find_all.Goals as goal
 use Rattle.sf_heap.specs.Cells.{heap_of}
 
@@ -42,8 +42,8 @@ returns-then-not-branch c =
     (slice_get p.procedures c.args.f.0) c.loop-r.invariant
     (λ g e are.
     let none = subst (λ found. AlsoFound (take (r + 1) (assertions_of p g false)) here.0.invariant vars heap c.loop-r.found
-    c.take.new.self (Ok found)) c.if-not-branch.true
-    (c.in_ok-take.ensures (take (r + 1) (assertions_of p g false)) here.0.invariant ord are) in
+    c.take_next.new.found (Ok found)) c.if-not-branch.true
+    (c.in_ok-take_next.ensures (take (r + 1) (assertions_of p g false)) here.0.invariant ord are) in
     inr (suc r, ap Unmet c.in_ok-name.ensures, next-unmet p g vars heap c.loop-r.found r here.0 are here.1 none))
 
 -- or it is found
@@ -59,10 +59,10 @@ loop-r-preserved c =
     (slice_get p.resources r) here.0 here.1 c.invariant.ensures in
     some-then (λ (g : Procedure). AreFound (take (r + 1) (assertions_of p g false)) vars heap c.loop-r.found) _
     (slice_get p.procedures c.args.f.0) c.loop-r.invariant
-    (λ g e are. next-found p g vars heap c.take.new.self r here.0
+    (λ g e are. next-found p g vars heap c.take_next.new.found r here.0
     (subst (λ found. AlsoFound (take (r + 1) (assertions_of p g false)) here.0.invariant vars heap c.loop-r.found
-    c.take.new.self (Ok found)) c.if-not-branch.false
-    (c.in_ok-take.ensures (take (r + 1) (assertions_of p g false)) here.0.invariant ord are)) here.1)
+    c.take_next.new.found (Ok found)) c.if-not-branch.false
+    (c.in_ok-take_next.ensures (take (r + 1) (assertions_of p g false)) here.0.invariant ord are)) here.1)
 
 pub returns : goal.returns
 returns c =

@@ -15,12 +15,13 @@ returns-then-not-branch c =
     let p = program_of c.args.p.now.program in
     let vars = value_of c.args.vars.now in
     let heap = c.args.heap.now in
-    let nothing = found-nothing vars heap c.new-found.result c.new-found.ensures.parts c.new-found.ensures.taken in
+    let nothing = found-nothing vars heap c.new-found.result c.new-found.ensures.parts
+    (c.new-found.ensures.apart heap) in
     some-then (λ (g : Procedure). IsOrderOf g.pre (assertion_of c.pre.result.now.assertion)) _
     (slice_get p.procedures c.args.f.0) c.pre.ensures
     (λ g e ord.
-    let none = subst (λ found. AlsoFound [] g.pre vars heap c.new-found.result c.take.new.self (Ok found))
-    c.if-not-branch.true (c.in_ok-take.ensures [] g.pre ord nothing) in
+    let none = subst (λ found. AlsoFound [] g.pre vars heap c.new-found.result c.take_next.new.found (Ok found))
+    c.if-not-branch.true (c.in_ok-take_next.ensures [] g.pre ord nothing) in
     inr (0, ap Unmet c.in_ok-name.ensures, found-unmet p g true vars heap c.new-found.result 0 g.pre nothing refl none))
 
 -- or it is found
@@ -29,8 +30,9 @@ returns c =
     let p = program_of c.args.p.now.program in
     let vars = value_of c.args.vars.now in
     let heap = c.args.heap.now in
-    let nothing = found-nothing vars heap c.new-found.result c.new-found.ensures.parts c.new-found.ensures.taken in
+    let nothing = found-nothing vars heap c.new-found.result c.new-found.ensures.parts
+    (c.new-found.ensures.apart heap) in
     some-then (λ (g : Procedure). IsOrderOf g.pre (assertion_of c.pre.result.now.assertion)) _
     (slice_get p.procedures c.args.f.0) c.pre.ensures
-    (λ g e ord. subst (λ found. AlsoFound [] g.pre vars heap c.new-found.result c.take.new.self (Ok found))
-    c.if-not-branch.false (c.in_ok-take.ensures [] g.pre ord nothing))
+    (λ g e ord. subst (λ found. AlsoFound [] g.pre vars heap c.new-found.result c.take_next.new.found (Ok found))
+    c.if-not-branch.false (c.in_ok-take_next.ensures [] g.pre ord nothing))

@@ -38,7 +38,7 @@ new-requires-clause-starts c =
     let fits = some-holds (λ (h : Procedure). Fits p h c.args.vars) (slice_get p.procedures c.args.f.0) g here.1 c.requires.fits in
     let formed = c.args.p.now.program.formed.procedures c.args.f.0 g here.1 in
     begin-starts p c.args.f g c.args.fresh c.args.vars c.args.heap c.in_ok-found.found.parts.items here.1
-    (omega (arith, formed.declared)) c.requires.free c.requires.other c.requires.suits fits c.requires.width are.footprints are.distinct
+    (omega (arith, formed.declared)) c.requires.free c.requires.other c.requires.suits fits c.requires.width are.footprints are.apart.distinct
     (begin-all (assertions_of p g c.args.fresh) (value_of c.args.vars) c.args.heap c.in_ok-found.found c.args.at.now are c.requires.all
     c.in_default.ensures.none)
 
@@ -55,7 +55,7 @@ returns c =
       c.new.ensures.heap,
       subst (λ (parts : Vec Locations Global). StartsWith p c.args.f c.args.fresh c.args.vars c.args.heap parts.items) (sym c.new.ensures.parts)
           (begin-starts p c.args.f g c.args.fresh c.args.vars c.args.heap c.in_ok-found.found.parts.items e
-          (omega (arith, formed.declared)) c.requires.free c.requires.other c.requires.suits fits c.requires.width are.footprints are.distinct
+          (omega (arith, formed.declared)) c.requires.free c.requires.other c.requires.suits fits c.requires.width are.footprints are.apart.distinct
           (begin-all (assertions_of p g c.args.fresh) (value_of c.args.vars) c.args.heap c.in_ok-found.found c.args.at.now are c.requires.all
           c.in_default.ensures.none)),
       subst (λ unit. IsFirstUnit c.args.vars c.args.heap unit) (sym c.new.ensures.unit) c.first_unit-unit.ensures,

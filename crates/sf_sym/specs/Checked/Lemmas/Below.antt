@@ -1,9 +1,10 @@
 -- Terms that occur: a weaker property of all of them, and symbols below a number.
 -- Names: `PART-weaker` of what holds of every term of that part, `below-LAW` of terms below a number.
 use Rattle.std.specs.List.{AllByRecursion}
-use Rattle.std.proofs.Common.{◌≡◌, ℕ, ◌<◌, ◌≤◌, ◌==◌, Bool, true, false, cond, nat_lt, List, [], ◌∷◌, refl, sym, arith}
+use Rattle.std.proofs.Common.{◌≡◌, ℕ, ◌<◌, ◌≤◌, ◌==◌, ◌&&◌, Bool, true, false, cond, not, nat_lt, List, [], ◌∷◌, Some, refl, sym, subst, arith}
 use Rattle.std.proofs.lemmas.Bool.{ltb-true}
 use Rattle.std.proofs.lemmas.Bool.Decides.{nat_tests}
+use Rattle.std.proofs.lemmas.Option.{cond_some}
 use Rattle.sf_base.specs.declared.ids.FieldId.{FieldId}
 use Rattle.sf_base.specs.declared.value.Value.{Value}
 use Rattle.sf_sym.specs.declared.atom.Atom.{Atom}
@@ -15,8 +16,10 @@ use Rattle.sf_sym.specs.Below.{AllInAtom, AllInAtoms, AllInGoal, AllInItem, AllI
 use Rattle.sf_sym.specs.Fields.{put_term}
 use Rattle.sf_sym.specs.Goal.{Item, run, add, take, gave, head, again, exit, return, end, Goal}
 use Rattle.sf_sym.specs.Holds.{term_value}
+use Rattle.sf_sym.specs.Known.{forced_by}
 use Rattle.sf_sym.specs.Pending.{Pending}
 use Rattle.sf_sym.specs.State.{State}
+use Rattle.sf_sym.specs.Tests.{same_term}
 
 module _ (P Q : Term → Type 0) (weaker : (t : Term) → P t → Q t) where
   pub paired-weaker : {K : Type 0} (xs : List (K × Term)) → AllPaired P xs → AllPaired Q xs
@@ -101,3 +104,14 @@ put-all P f u (g ∷ gs) p a = go (g.0.0 == f.0) (nat_lt f.0 g.0.0) (put-all P f
     go true t r = (p, a.1)
     go false true r = (p, a)
     go false false r = (a.0, r)
+
+-- terms that are forced are terms of the atom
+pub forced-below : (n : ℕ) (x : Atom) (elsewhere : Bool) (both : Term × Term) → forced_by elsewhere x ≡ Some both
+    → AllInAtom (IsBelow n) x → IsBelow n both.0 × IsBelow n both.1
+forced-below n (Points t fields) elsewhere both e b = absurd (cc)
+forced-below n (Ls t u) elsewhere both e b =
+    subst (λ z. IsBelow n z.0 × IsBelow n z.1)
+    (cond_some (not (same_term t u) && elsewhere) (t, u) both e).1 b
+forced-below n (Tree t) elsewhere both e b =
+    subst (λ z. IsBelow n z.0 × IsBelow n z.1)
+    (cond_some (not (same_term t Nil) && elsewhere) (t, Nil) both e).1 (b, refl)

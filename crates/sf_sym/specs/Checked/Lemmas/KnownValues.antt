@@ -19,9 +19,9 @@ use Rattle.sf_sym.specs.Below.{AllPaired}
 use Rattle.sf_sym.specs.declared.term.Term.{Term}
 use Rattle.sf_sym.specs.declared.term.Term.TheVariants.{Nil, Int}
 use Rattle.sf_sym.specs.Holds.{term_value, Agrees}
-use Rattle.sf_sym.specs.Ready.{AreInOrder, HasValue, IsIn, is_listed, value_at, with_variable}
+use Rattle.sf_sym.specs.Ready.{HasValue, IsIn, is_listed, value_at, with_variable}
 use Rattle.sf_sym.specs.State.{term, term_at}
-use Rattle.sf_sym.specs.Variables.{comes_before, set_var}
+use Rattle.sf_sym.specs.Variables.{AreInOrder, comes_before, set_var}
 
 module _ (w : ℕ → Value) (e : Var → Option Value) where
   -- a variable with a value and a term has the term's value

@@ -17,7 +17,7 @@ use Rattle.sf_sym.specs.declared.term.Term.{Term}
 use Rattle.sf_sym.specs.declared.term.Term.TheVariants.{Nil, Int, Sym}
 use Rattle.sf_sym.specs.Holds.{term_value, Differ, SegAlong, TreeAlong, AtomHolds, AtomsHold}
 use Rattle.sf_sym.specs.Checked.Laws.{IsLocationIn}
-use Rattle.sf_sym.specs.Tests.{same_term, is_constant, root, has_cell, allocates, is_integer_tree, is_impossible, has_repeat}
+use Rattle.sf_sym.specs.Tests.{same_term, begins, is_allocated_in, is_at_constant, is_constant, roots, has_cell, allocates, is_integer_tree, is_impossible, has_repeat}
 use Rattle.sf_base.proofs.MapSplits.{splits-has_left, splits-has_right, splits-lacks_right}
 use Rattle.sf_base.proofs.HeapSplits.{one-in}
 use Rattle.sf_base.proofs.Bools.{and-left, and-right}
@@ -52,6 +52,15 @@ located-apart {h} {g} {k} s a b e =
     let same : a.location ≡ b.location = loc-same a.location b.location (sym a.is ∙ e ∙ b.is) in
     none-some b.here (sym (splits-lacks_right a.location a.here s a.there) ∙ ap k same ∙ b.there)
 
+-- one of the terms passes a test, and is as all of them are
+one-of : (P : Term → Type 0) (p : Term → Bool) (ts : List Term) → AllByRecursion P ts → list_any p ts ≡ true
+    → (t : Term) × P t × (p t ≡ true)
+one-of P p [] all e = absurd (cc)
+one-of P p (t ∷ ts) all e = elim (or_cases (p t) (list_any p ts) e) [
+  | inl here ↦ (t, all.0, here)
+  | inr later ↦ one-of P p ts all.1 later
+]
+
 -- a segment whose ends differ begins at a location
 pub seg_along-located : (next : Option FieldId) (from to : Value) (h : Heap) → from ≢ to
     → SegAlong next from to h → IsLocationIn h from
@@ -70,22 +79,23 @@ tree_along-located (Some left) (Some right) v h n s =
 
 module _ (w : ℕ → Value) (links : Links) (apart : List (Term × Term))
     (differ : AllByRecursion (Differ w) apart) where
-  -- an atom with a cell has it at its root's value
+  -- an atom with a cell has one at the value of each of its roots
   pub atom-located : (a : Atom) (h : Heap) → has_cell apart a ≡ true → AtomHolds w links a h
-      → IsLocationIn h (term_value w (root a))
+      → AllByRecursion (λ t. IsLocationIn h (term_value w t)) (roots a)
   atom-located (Points t fields) h e (location, here, is, one, f) =
-      record { location = location; here = here; is = is; there = one.here }
-  atom-located (Ls t u) h e s = seg_along-located links.tl _ _ h (direct-differs w apart t u differ e) s
+      (record { location = location; here = here; is = is; there = one.here }, tt)
+  atom-located (Ls t u) h e s = (seg_along-located links.tl _ _ h (direct-differs w apart t u differ e) s, tt)
   atom-located (Tree t) h e s =
-      tree_along-located links.l links.r _ h (direct-differs w apart t Nil differ e) s
+      (tree_along-located links.l links.r _ h (direct-differs w apart t Nil differ e) s, tt)
 
   -- a term that an atom allocates is a location
   pub atom-allocated : (t : Term) (a : Atom) (h : Heap) → allocates apart t a ≡ true → AtomHolds w links a h
       → IsLocationIn h (term_value w t)
   atom-allocated t a h e s =
-      subst (λ u. IsLocationIn h (term_value w u))
-      (same_term_is (root a) t (and-left (same_term (root a) t) (has_cell apart a) e))
-      (atom-located a h (and-right (same_term (root a) t) (has_cell apart a) e) s)
+      let (r, here, is) = one-of (λ r. IsLocationIn h (term_value w r)) (λ r. same_term r t) (roots a)
+      (atom-located a h (and-right (begins t a) (has_cell apart a) e) s)
+      (and-left (begins t a) (has_cell apart a) e) in
+      subst (λ u. IsLocationIn h (term_value w u)) (same_term_is r t is) here
 
   -- a term that one of the atoms allocates is a location
   pub atoms-located : (t : Term) (p : Numbered → Bool)
@@ -133,11 +143,12 @@ module _ (w : ℕ → Value) (links : Links) (apart : List (Term × Term))
 
   -- no heap has an impossible atom
   pub atom-possible : (a : Atom) (h : Heap) → is_impossible apart a ≡ true → AtomHolds w links a h → ⊥
-  atom-possible a h e s = elim (or_cases (is_constant (root a) && has_cell apart a) (is_integer_tree a) e) [
+  atom-possible a h e s = elim (or_cases (is_at_constant apart a) (is_integer_tree a) e) [
     | inl y ↦
-        let l = atom-located a h (and-right (is_constant (root a)) (has_cell apart a) y) s in
-        term-constant_no_location w (root a) l.location
-        (and-left (is_constant (root a)) (has_cell apart a) y) l.is
+        let (r, l, is) = one-of (λ r. IsLocationIn h (term_value w r)) is_constant (roots a)
+        (atom-located a h (and-right (list_any is_constant (roots a)) (has_cell apart a) y) s)
+        (and-left (list_any is_constant (roots a)) (has_cell apart a) y) in
+        term-constant_no_location w r l.location is l.is
     | inr y ↦ atom-no_integer_tree a h y s
   ]
 
@@ -156,14 +167,15 @@ module _ (w : ℕ → Value) (links : Links) (apart : List (Term × Term))
       → AtomsHold w links xs h → ⊥
   atoms-no_repeat [] h e s = absurd (cc)
   atoms-no_repeat (a ∷ xs) h e s =
-      elim (or_cases (list_any (λ b. allocates apart (root a.atom) b.atom) xs && has_cell apart a.atom)
+      elim (or_cases (list_any (is_allocated_in apart xs) (roots a.atom) && has_cell apart a.atom)
       (has_repeat apart xs) e) [
         | inl y ↦
-            located-apart s.splits
-            (atom-located a.atom s.left (and-right (list_any (λ b. allocates apart (root a.atom) b.atom) xs)
+            let (r, here, is) = one-of (λ r. IsLocationIn s.left (term_value w r)) (is_allocated_in apart xs)
+            (roots a.atom)
+            (atom-located a.atom s.left (and-right (list_any (is_allocated_in apart xs) (roots a.atom))
             (has_cell apart a.atom) y) s.first)
-            (atoms-located (root a.atom) (λ b. allocates apart (root a.atom) b.atom) (λ b z. z) xs s.right
-            (and-left (list_any (λ b. allocates apart (root a.atom) b.atom) xs) (has_cell apart a.atom) y)
-            s.second) refl
+            (and-left (list_any (is_allocated_in apart xs) (roots a.atom)) (has_cell apart a.atom) y) in
+            located-apart s.splits here
+            (atoms-located r (λ b. allocates apart r b.atom) (λ b z. z) xs s.right is s.second) refl
         | inr y ↦ atoms-no_repeat xs s.right y s.second
       ]

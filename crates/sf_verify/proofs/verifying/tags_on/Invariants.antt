@@ -1,6 +1,6 @@
 use Rattle.std.proofs.Common.{◌≤◌, ◌-◌, length}
 use Rattle.sf_base.specs.declared.limits.TheConstants.{FILE_TAGS}
-use Rattle.sf_verify.proofs.Judging.{Judged}
+use Rattle.sf_search.specs.Checked.Judging.{Judged}
 use Rattle.sf_verify.proofs.verifying.tags_on.Given as goal
 
 abbrev pub invariant-loop-i : goal.invariant-loop-i

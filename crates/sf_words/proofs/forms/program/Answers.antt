@@ -22,4 +22,5 @@ returns c =
     let three_is = c.in_ok-run.ensures _ _ c.in_ok-three.ensures ∙ ap (λ (a : App). with_subcommand a run_form.top) two_is in
     let four_is = c.in_ok-demo.ensures _ _ c.in_ok-four.ensures ∙ ap (λ (a : App). with_subcommand a (bare_form (codes "demo")).top) three_is in
     let five_is = c.in_ok-order.ensures _ _ c.in_ok-five.ensures ∙ ap (λ (a : App). with_subcommand a (bare_form (codes "order")).top) four_is in
-    c.in_ok-replay.ensures _ _ c.in_ok-all.ensures ∙ ap (λ (a : App). with_subcommand a (bare_form (codes "replay")).top) five_is
+    let six_is = c.in_ok-replay.ensures _ _ c.in_ok-six.ensures ∙ ap (λ (a : App). with_subcommand a (bare_form (codes "replay")).top) five_is in
+    c.in_ok-witness.ensures _ _ c.in_ok-all.ensures ∙ ap (λ (a : App). with_subcommand a (bare_form (codes "witness")).top) six_is

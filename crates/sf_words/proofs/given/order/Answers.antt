@@ -1,10 +1,12 @@
-use Rattle.std.proofs.Common.{◌∙◌, List, ap, ap₂, codes, sym}
+use Rattle.std.proofs.Common.{◌≡◌, ◌∙◌, Bool, true, false, List, ap, ap₂, codes, refl, sym}
+use Rattle.std.specs.Str.{bytes_eq}
 use Rattle.clap.proofs.WalkLemmas.{raw_values-rows}
 use Rattle.clap.specs.Words.{found_of, rows_of}
+use Rattle.sf_base.proofs.Equality.{bytes_eq-same}
 use Rattle.sf_words.proofs.Rows.{texts-rows}
 use Rattle.sf_words.specs.Checked.Forms.{operands_id, values_at}
 use Rattle.sf_words.specs.Checked.Found.{order_found, texts_under}
-use Rattle.sf_words.specs.Words.{Text, demo_of, ranking_of, recheck_of, replay_of, run_of, steps_of, verify_of, waits_of, workers_of}
+use Rattle.sf_words.specs.Words.{Text, demo_of, ranking_of, recheck_of, replay_of, run_of, steps_of, verify_of, waits_of, witness_of, workers_of}
 use Rattle.sf_words.proofs.given.order.Goals as goal
 
 pub returns-in-verify : goal.returns-in-verify
@@ -47,3 +49,30 @@ returns-in-replay c =
     let found = found_of c.args.matches.now in
     let operands = texts-rows operands_id (rows_of found) c.get_strs-operands.result _ c.get_strs-operands.ensures (raw_values-rows found operands_id) in
     c.replay.ensures ∙ ap replay_of operands ∙ sym (ap (λ (n : Text). order_found n (rows_of found)) c.in-replay.is)
+
+pub returns-in-witness : goal.returns-in-witness
+returns-in-witness c =
+    let found = found_of c.args.matches.now in
+    let operands = texts-rows operands_id (rows_of found) c.get_strs-operands.result _ c.get_strs-operands.ensures (raw_values-rows found operands_id) in
+    c.witness.ensures ∙ ap witness_of operands ∙ sym (ap (λ (n : Text). order_found n (rows_of found)) c.in-witness.is)
+
+-- a name that isn't the word
+other : (w name : Text) → (name ≡ w → ⊥) → bytes_eq w name ≡ false
+other w name n = go (bytes_eq w name) refl
+  where
+    go : (b : Bool) → bytes_eq w name ≡ b → bytes_eq w name ≡ false
+    go true e = absurd (n (sym (bytes_eq-same w name e)))
+    go false e = e
+
+pub returns-in_default : goal.returns-in_default
+returns-in_default c =
+    let name = c.args.name.now in
+    rw (
+      other (codes "verify") name c.in_default.not-verify,
+      other (codes "recheck") name c.in_default.not-recheck,
+      other (codes "run") name c.in_default.not-run,
+      other (codes "demo") name c.in_default.not-demo,
+      other (codes "order") name c.in_default.not-order,
+      other (codes "replay") name c.in_default.not-replay,
+      other (codes "witness") name c.in_default.not-witness,
+    ) refl

@@ -1,7 +1,9 @@
 use Rattle.std.proofs.Common.{ap, sym, ◌∙◌}
 use Rattle.sf_core.specs.Program.View.{command_of}
 use Rattle.sf_search.proofs.Views.{dispose_view, if_view, look_up_view, mutate_view}
-use Rattle.sf_search.specs.Strategy.{at_cell, at_command, at_test, no_cell, takes}
+use Rattle.sf_search.specs.declared.choices.choice.Choice.TheVariants.{Takes as takes}
+use Rattle.sf_sym.specs.declared.stuck.Stuck.TheVariants.{NoCell as no_cell}
+use Rattle.sf_search.specs.Checked.Chooses.{at_cell, at_command, at_test}
 use Rattle.sf_sym.specs.Decided.{command_test}
 use Rattle.sf_sym.specs.declared.tag.Tag.TheVariants as t
 use Rattle.sf_sym.specs.State.{term}

@@ -2,7 +2,6 @@ use Rattle.std.proofs.Common.{◌≡◌, IfNone, None, ap, sym, subst, ◌∙◌
 use Rattle.std.specs.Option.{option_map}
 use Rattle.sf_search.proofs.Fewer.{map-none}
 use Rattle.sf_search.proofs.Lowest.{forced_is_lowest, nothing_is_lowest, state_forced, state_none}
-use Rattle.sf_search.specs.Ends.{choice_of}
 use Rattle.sf_search.specs.Checked.Settled.{IsSettled}
 use Rattle.sf_search.specs.Strategy.{lowest, lowest_forced, or_else, which}
 use Rattle.sf_sym.specs.Known.{first_nothing, is_nothing}
@@ -13,7 +12,7 @@ pub returns-in_err-a-clause-choice : goal.returns-in_err-a-clause-choice
 returns-in_err-a-clause-choice c = λ z.
     let s = c.args.state.now in
     let none : first_nothing s.atoms ≡ None = search rules in
-    ap (λ o. or_else (option_map choice_of o) z) c.from_residual.ensures
+    ap (λ o. or_else (o) z) c.from_residual.ensures
     ∙ sym (state_none (is_absurd s) (lowest (which is_nothing) s.atoms) (lowest_forced s s.atoms) z c.requires
     (nothing_is_lowest s.atoms c.is_numbered.ensures.rising ∙ none)
     (forced_is_lowest s s.atoms c.is_numbered.ensures.rising

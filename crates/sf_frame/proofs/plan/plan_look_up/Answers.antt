@@ -1,9 +1,0 @@
-use Rattle.sf_frame.specs.Commons.{common_of}
-use Rattle.sf_frame.specs.Frames.{fixed_of}
-use Rattle.sf_frame.proofs.Plans.{plan_look_up}
-use Rattle.sf_frame.proofs.plan.plan_look_up.Goals as goal
-
-pub returns-in-Some : goal.returns-in-Some
-returns-in-Some c = plan_look_up (common_of c.args.shared.now) (fixed_of c.args.frame.now) c.args.x c.args.e
-    c.args.field c.spot.result c.evaluate-root.result c.get.result c.in-Some.cell.now c.after.result c.requires
-    c.spot.ensures c.evaluate-root.ensures c.in-Some.ensures c.get.ensures c.after.ensures

@@ -1,9 +1,0 @@
-use Rattle.std.proofs.Common.{◌∷◌, ap}
-use Rattle.sf_core.specs.Machine.Config.{Frame}
-use Rattle.sf_frame.specs.Frames.{frames_of}
-use Rattle.sf_frame.proofs.Stacks.{after_same}
-use Rattle.sf_frame.proofs.stack.Stack.advanced.Goals as goal
-
-pub returns : goal.returns
-returns c = ap (λ (z : Frame). z ∷ frames_of c.args.self.below.items)
-    (after_same c.args.self.frame _ _ c.going_on.ensures.frame (c.after.ensures _))

@@ -1,0 +1,147 @@
+use Rattle.std.proofs.Common.{ap, ◌∙◌, ◌+◌, ◌≡◌, ◌≤◌, ◌∷◌, None, Some, length, refl, subst, sym, arith}
+use Rattle.sf_base.proofs.Options.{is_some-false}
+use Rattle.sf_base.specs.declared.limits.TheConstants.{STEPS}
+use Rattle.sf_core.specs.Machine.Config.{Common}
+use Rattle.sf_core.specs.Machine.Step.{set_holder}
+use Rattle.sf_core.specs.Machine.Whole.{running, numbers}
+use Rattle.sf_frame.specs.Checked.Effects.{IsSameCommon}
+use Rattle.sf_frame.specs.Checked.Frames.{moved}
+use Rattle.sf_frame.specs.Commons.{common_of, held_of}
+use Rattle.sf_frame.specs.declared.frame.Way.TheVariants.{Into}
+use Rattle.sf_frame.specs.declared.stack.Change.TheVariants.{GoOn}
+use Rattle.sf_part.specs.Checked.Stepping.{own_event}
+use Rattle.sf_part.specs.Contents.{content_of}
+use Rattle.sf_part.specs.Keeps.{IsWaiting, Keeps}
+use Rattle.sf_part.specs.Of.{frames_in}
+use Rattle.sf_part.specs.Parts.{part_with}
+use Rattle.sf_part.specs.PartView.{part_of}
+use Rattle.sf_part.specs.Stands.{stand_in}
+use Rattle.sf_part.proofs.Performed.{performed-keeps, same-common, same-own, same-part}
+use Rattle.sf_part.proofs.Taking.{taking-after, taking-freed, taking-own, taking-unmade}
+use Rattle.sf_part.proofs.part.Part.entered.Goals as goal
+
+pub invariant_of-self : goal.invariant_of-self
+invariant_of-self c =
+    let common : common_of c.apply.new.shared ≡ common_of c.args.self.now.shared =
+    same-common (common_of c.apply.new.shared) (common_of c.args.self.now.shared)
+    c.in-Err.ensures.err in
+    record {
+      kept = subst Keeps
+          (sym (same-part c.args.self.now.task c.args.self.now.stand c.args.self.now.stand
+          c.args.self.now.shared c.apply.new.shared c.args.self.now.supply c.args.self.now.clock
+          c.args.self.now.keeps c.args.self.now.log.items c.args.self.now.given refl common))
+          c.args.self.now.kept;
+      own = same-own c.args.self.now.task c.args.self.now.shared c.apply.new.shared
+          (ap (λ (z : Common). z.held) common) c.args.self.now.own;
+    }
+
+pub returns-in-Err-clause-err : goal.returns-in-Err-clause-err
+returns-in-Err-clause-err c =
+    same-part c.args.self.now.task c.args.self.now.stand c.args.self.now.stand
+    c.args.self.now.shared
+    c.apply.new.shared c.args.self.now.supply c.args.self.now.clock c.args.self.now.keeps
+    c.args.self.now.log.items c.args.self.now.given refl
+    (same-common (common_of c.apply.new.shared) (common_of c.args.self.now.shared)
+    c.in-Err.ensures.err)
+
+pub invariant_of-self-in-Err-take_in : goal.invariant_of-self-in-Err-take_in
+invariant_of-self-in-Err-take_in c =
+    let free : (common_of c.args.self.now.shared).held c.args.content.resource ≡ None =
+    is_some-false (held_of c.args.self.now.shared.held c.args.content.resource)
+    c.requires.may.outside in
+    let same = same-common (common_of c.take_in.new.shared) (common_of c.apply.new.shared)
+    c.in-Err-take_in.ensures.err in
+    let common : common_of c.edit.new.shared ≡ common_of c.args.self.now.shared =
+    taking-freed (common_of c.args.self.now.shared) (common_of c.take_in.new.shared)
+    (common_of c.edit.new.shared) c.args.content.resource c.args.self.now.task free
+    (subst (λ (z : Common).
+    IsSameCommon z (set_holder c.args.content.resource (Some c.args.self.now.task)
+    (common_of c.args.self.now.shared)))
+    (sym same) c.in_default.ensures.ok) c.edit.ensures.done in
+    record {
+      kept = subst Keeps
+          (sym (same-part c.args.self.now.task c.args.self.now.stand c.args.self.now.stand
+          c.args.self.now.shared c.edit.new.shared c.args.self.now.supply c.args.self.now.clock
+          c.args.self.now.keeps c.args.self.now.log.items c.args.self.now.given refl common))
+          c.args.self.now.kept;
+      own = same-own c.args.self.now.task c.args.self.now.shared c.edit.new.shared
+          (ap (λ (z : Common). z.held) common) c.args.self.now.own;
+    }
+
+pub returns-in-Err-take_in-clause-err : goal.returns-in-Err-take_in-clause-err
+returns-in-Err-take_in-clause-err c =
+    let free : (common_of c.args.self.now.shared).held c.args.content.resource ≡ None =
+    is_some-false (held_of c.args.self.now.shared.held c.args.content.resource)
+    c.requires.may.outside in
+    let same = same-common (common_of c.take_in.new.shared) (common_of c.apply.new.shared)
+    c.in-Err-take_in.ensures.err in
+    let common : common_of c.edit.new.shared ≡ common_of c.args.self.now.shared =
+    taking-freed (common_of c.args.self.now.shared) (common_of c.take_in.new.shared)
+    (common_of c.edit.new.shared) c.args.content.resource c.args.self.now.task free
+    (subst (λ (z : Common).
+    IsSameCommon z (set_holder c.args.content.resource (Some c.args.self.now.task)
+    (common_of c.args.self.now.shared)))
+    (sym same) c.in_default.ensures.ok) c.edit.ensures.done in
+    same-part c.args.self.now.task c.args.self.now.stand c.args.self.now.stand
+    c.args.self.now.shared
+    c.edit.new.shared c.args.self.now.supply c.args.self.now.clock c.args.self.now.keeps
+    c.args.self.now.log.items c.args.self.now.given refl common
+
+pub invariant_of-self-2 : goal.invariant_of-self-2
+invariant_of-self-2 c =
+    let taken = taking-after (common_of c.args.self.now.shared) (common_of c.apply.new.shared)
+    (common_of c.take_in.new.shared) (content_of c.args.content).content c.args.content.resource
+    c.args.self.now.task c.in_default.ensures.ok c.in_default-take_in.ensures.ok.heap
+    c.in_default-take_in.ensures.ok.store c.in_default-take_in.ensures.ok.held in
+    let time : c.max.result + length (numbers c.args.self.now.supply) ≤ STEPS =
+    rw c.max.ensures c.requires.may.time in
+    record {
+      kept = performed-keeps (own_event c.args.self.now c.next-number.result) c.max.result
+          (part_of c.args.self.now)
+          (part_with c.args.self.now.task c.changed.result c.take_in.new.shared c.spend.new.self
+          (c.max.result + 1) c.args.self.now.keeps c.note.new.log.items c.args.self.now.given)
+          c.args.self.now.kept
+          (c.next-number.ensures ∙ ap (λ z. c.next-number.result ∷ z) (sym c.spend.ensures))
+          (λ n there other h. taking-unmade (common_of c.args.self.now.shared)
+          (common_of c.take_in.new.shared)
+          (content_of c.args.content).content c.args.content.resource c.args.self.now.task n taken h
+          (c.requires.may.apart.units n there))
+          (subst (λ z. IsWaiting z → ⊥) (sym c.changed.ensures) (λ h. h)) (omega arith) time
+          (record { keeps = refl; given = refl; clock_is = omega arith; log_is = c.note.ensures });
+      own = taking-own c.args.self.now.task c.args.self.now.shared c.take_in.new.shared
+          (content_of c.args.content).content c.args.content.resource taken c.args.self.now.own;
+    }
+
+pub returns-clause-ok : goal.returns-clause-ok
+returns-clause-ok c =
+    let taken = taking-after (common_of c.args.self.now.shared) (common_of c.apply.new.shared)
+    (common_of c.take_in.new.shared) (content_of c.args.content).content c.args.content.resource
+    c.args.self.now.task c.in_default.ensures.ok c.in_default-take_in.ensures.ok.heap
+    c.in_default-take_in.ensures.ok.store c.in_default-take_in.ensures.ok.held in (
+      c.next-number.result,
+      c.next-number.ensures,
+      record {
+        task = refl;
+        stand = c.changed.ensures
+            ∙ ap (λ z. running (moved (GoOn Into) (frames_in (stand_in z))))
+            c.replace-stand.ensures.value;
+        heap = taken.heap;
+        store = taken.store;
+        held = taken.held;
+        supply = c.spend.ensures;
+        clock = ap (λ z. z + 1) c.max.ensures;
+        keeps = refl;
+        given = refl;
+        blank = refl;
+        log = c.note.ensures;
+      },
+    )
+
+pub returns-in-Err-take_in-clause-width : goal.returns-in-Err-take_in-clause-width
+returns-in-Err-take_in-clause-width c = λ count blank content wide.
+    c.edit.ensures.width count
+    (c.in-Err-take_in.ensures.width count content (c.in_default.ensures.width count blank wide))
+
+pub returns-clause-width : goal.returns-clause-width
+returns-clause-width c = λ count blank content wide.
+    c.in_default-take_in.ensures.width count content (c.in_default.ensures.width count blank wide)

@@ -1,0 +1,14 @@
+mod CellValues
+mod Heaps
+mod Normality
+mod Equations
+mod HeapParts
+mod Wishes
+mod Views
+mod Wants
+mod Texts
+mod Rising
+mod Finite
+mod Decided
+pub mod OneText
+pub mod Satisfying

@@ -1,0 +1,116 @@
+-- How the code's conjuncts of terms are read, form by form; and when a part of a heap satisfies one.
+-- Names: `view-FORM`, `FORM-in`.
+use Rattle.std.proofs.Common.{◌≡◌, ◌↔◌, Bool, IsTrue, List, Option, Vec, Global, sym, ap, ◌∙◌, subst}
+use Rattle.sf_base.specs.declared.ids.FieldId.{FieldId}
+use Rattle.sf_base.specs.declared.place.Place.{Place}
+use Rattle.sf_base.specs.HeapStore.{Heap}
+use Rattle.sf_base.proofs.HeapSplits.{one-single, one-splits, remove_cell, single}
+use Rattle.sf_base.proofs.MapSplits.{empty_map, empty-holds, splits-empty_left, splits-has_left}
+use Rattle.sf_core.specs.declared.assertion.Conjunct.{Holds, Points, Segment, Tree}
+use Rattle.sf_core.specs.declared.assertion.Conjunct.TheVariants.{rolls-Holds, rolls-Points, rolls-Segment, rolls-Tree}
+use Rattle.sf_core.specs.declared.assertion.Conjunct.TheFolds.{fold-roll-Conjunct}
+use Rattle.sf_core.specs.declared.assertion.Operand.{Operand}
+use Rattle.sf_core.specs.declared.assertion.Test.{Test}
+use Rattle.sf_core.specs.Program.Syntax.{Conjunct, holds, points, segment, tree, Level}
+use Rattle.sf_core.specs.Program.View.{conjunct_of, conjunct_step, level_step}
+use Rattle.sf_sym.specs.declared.term.Term.{Term}
+use Rattle.sf_witness.specs.Checked.Meeting.{HasCellAs}
+use Rattle.sf_witness.specs.Checked.Wishes.{HasSegmentWith, HasTreeWith, IsTrueWith}
+use Rattle.sf_witness.specs.Wanted.{IsIn, IsSatisfied, plain}
+
+pub view-holds : (p : Place) (t : Test (Operand Term)) → conjunct_of {E = Term} (Holds p t) ≡ holds p t
+view-holds p t = ap (conjunct_of {E = Term}) (sym (rolls-Holds p t))
+    ∙ fold-roll-Conjunct Term (Conjunct Term) (Level Term) conjunct_step level_step _
+
+pub view-points : (p : Place) (x : Operand Term) (v : Vec (FieldId × Operand Term) Global)
+    → conjunct_of {E = Term} (Points p x v) ≡ points p x v.items
+view-points p x v = ap (conjunct_of {E = Term}) (sym (rolls-Points p x v))
+    ∙ fold-roll-Conjunct Term (Conjunct Term) (Level Term) conjunct_step level_step _
+
+pub view-segment : (p : Place) (f : FieldId) (x y : Operand Term)
+    → conjunct_of {E = Term} (Segment p f x y) ≡ segment p f x y
+view-segment p f x y = ap (conjunct_of {E = Term}) (sym (rolls-Segment p f x y))
+    ∙ fold-roll-Conjunct Term (Conjunct Term) (Level Term) conjunct_step level_step _
+
+pub view-tree : (p : Place) (l r : FieldId) (x : Operand Term)
+    → conjunct_of {E = Term} (Tree p l r x) ≡ tree p l r x
+view-tree p l r x = ap (conjunct_of {E = Term}) (sym (rolls-Tree p l r x))
+    ∙ fold-roll-Conjunct Term (Conjunct Term) (Level Term) conjunct_step level_step _
+
+module _ (heap : Heap) (bindings : List (Option Term)) (p : Place) where
+  -- a test holds of no cells
+  pub holds-in : (t : Test (Operand Term))
+      → IsTrueWith bindings t ↔ IsSatisfied heap (record { bindings = bindings; conjunct = holds p t })
+  holds-in t = (
+    λ w. record {
+      some = w.0;
+      bound = w.1;
+      part = empty_map;
+      rest = heap;
+      splits = splits-empty_left empty-holds;
+      sat = (empty-holds, w.2);
+    },
+    λ i. (i.some, i.bound, i.sat.1),
+  )
+
+  -- a points-to of one cell
+  pub points-in : (x : Operand Term) (fs : List (FieldId × Operand Term))
+      → HasCellAs bindings x fs heap ↔ IsSatisfied heap (record { bindings = bindings; conjunct = points p x fs })
+  points-in x fs = (
+    λ w. record {
+      some = w.1.2.0;
+      bound = w.1.2.1;
+      part = single w.0 w.1.0;
+      rest = remove_cell w.0 heap;
+      splits = one-splits w.0 w.1.0 heap w.1.1;
+      sat = (w.0, w.1.0, w.1.2.2, one-single w.0 w.1.0, w.1.2.3);
+    },
+    λ i. (
+      i.sat.0,
+      (
+        i.sat.1,
+        splits-has_left i.sat.0 i.sat.1 i.splits i.sat.3.here,
+        (i.some, i.bound, i.sat.2, i.sat.4),
+      ),
+    ),
+  )
+
+  -- a segment and a tree of the part that is one
+  pub segment-in : (next : FieldId) (x y : Operand Term)
+      → HasSegmentWith bindings next x y heap
+      ↔ IsSatisfied heap (record { bindings = bindings; conjunct = segment p next x y })
+  segment-in next x y = (
+    λ w. record {
+      some = w.0;
+      bound = w.1;
+      part = w.2.part;
+      rest = w.2.rest;
+      splits = w.2.splits;
+      sat = w.2.is;
+    },
+    λ i. (i.some, i.bound, record { part = i.part; rest = i.rest; splits = i.splits; is = i.sat }),
+  )
+
+  pub tree-in : (l r : FieldId) (x : Operand Term)
+      → HasTreeWith bindings l r x heap
+      ↔ IsSatisfied heap (record { bindings = bindings; conjunct = tree p l r x })
+  tree-in l r x = (
+    λ w. record {
+      some = w.0;
+      bound = w.1;
+      part = w.2.part;
+      rest = w.2.rest;
+      splits = w.2.splits;
+      sat = w.2.is;
+    },
+    λ i. (i.some, i.bound, record { part = i.part; rest = i.rest; splits = i.splits; is = i.sat }),
+  )
+
+-- one thing after the other
+pub through : (b : Bool) (P Q : Type 0) → (IsTrue b ↔ P) → (P ↔ Q) → IsTrue b ↔ Q
+through b P Q d e = (λ i. e.0 (d.0 i), λ q. d.1 (e.1 q))
+
+-- as the code sees the conjunct
+pub plain-by : (heap : Heap) (bindings : List (Option Term)) (c d : Conjunct Term) (b : Bool) → c ≡ d
+    → (IsTrue b ↔ IsIn heap (plain bindings d)) → IsTrue b ↔ IsIn heap (plain bindings c)
+plain-by heap bindings c d b e = subst (λ (x : Conjunct Term). IsTrue b ↔ IsIn heap (plain bindings x)) (sym e)

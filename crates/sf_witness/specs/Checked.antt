@@ -1,0 +1,7 @@
+-- What is checked and need not be believed: laws, worked examples, lemmas, and definitions that only proofs use.
+-- One module for each.
+pub mod Laws
+pub mod Meeting
+pub mod Own
+pub mod Shapes
+pub mod Wishes
