@@ -2,6 +2,7 @@
 -- One module for each.
 pub mod Examples
 pub mod Indices
+pub mod Insertion
 pub mod Items
 pub mod Laws
 pub mod Lemmas
