@@ -19,6 +19,7 @@ use Rattle.sf_sym.specs.Below.{AllPaired, IsBelow}
 use Rattle.sf_sym.specs.declared.term.Term.{Term}
 use Rattle.sf_sym.specs.Checked.Lemmas.Below.{below-symbol}
 use Rattle.sf_sym.specs.Checked.Lemmas.KnownValues.{set-all, term-all}
+use Rattle.sf_sym.specs.Checked.Lemmas.Updates.{all-kept}
 use Rattle.sf_sym.specs.State.{State, term, term_at}
 use Rattle.sf_sym.specs.Variables.{fresh_for, remove_var, remove_vars, set_var, set_vars}
 
@@ -60,13 +61,8 @@ module _ (n : ℕ) where
 
   remove-below : (x : Var) (vs : List (Var × Term)) → AllPaired (IsBelow n) vs
       → AllPaired (IsBelow n) (remove_var x vs)
-  remove-below x [] b = tt
-  remove-below x (v ∷ vs) b = go (same_var v.0 x) (remove-below x vs b.1)
-    where
-      go : (c : Bool) → AllPaired (IsBelow n) (remove_var x vs)
-          → AllPaired (IsBelow n) (cond c vs (v ∷ remove_var x vs))
-      go true r = b.1
-      go false r = (b.0, r)
+  remove-below x vs b =
+      all-kept (λ (v : Var × Term). IsBelow n v.1) (λ v. not (same_var v.0 x)) vs b
 
   pub removed-below : (xs : List Var) (vs : List (Var × Term)) → AllPaired (IsBelow n) vs
       → AllPaired (IsBelow n) (remove_vars xs vs)
