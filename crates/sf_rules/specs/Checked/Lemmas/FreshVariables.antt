@@ -1,7 +1,7 @@
 -- Variables that get fresh symbols, and those that are set and removed; and the terms of a callee's variables.
 -- Names: `fresh-LAW` of fresh symbols, `variables-length`, `CHANGE-below` of variables whose terms are below a number.
 use Rattle.std.specs.List.{AllByRecursion, filter}
-use Rattle.std.proofs.Common.{◌≡◌, ℕ, zero, suc, ◌+◌, ◌<◌, ◌≤◌, Bool, true, false, cond, List, [], ◌∷◌, length, map, refl, ap, arith}
+use Rattle.std.proofs.Common.{◌≡◌, ℕ, zero, suc, ◌+◌, ◌<◌, ◌≤◌, Bool, true, false, not, cond, List, [], ◌∷◌, length, map, refl, ap, arith}
 use Rattle.std.proofs.lemmas.List.Sums.{count_by-le-length, length-filter}
 use Rattle.sf_base.specs.declared.ids.ResId.{ResId}
 use Rattle.sf_base.specs.declared.ids.Var.{Var}
