@@ -22,6 +22,8 @@ pub mod Forks
 pub mod Numbers
 pub mod Firsts
 pub mod Times
+pub mod Parting
+pub mod Begun
 pub mod Performed
 pub mod Held
 pub mod Made

@@ -5,6 +5,7 @@ pub mod LawsOfTime
 pub mod LawsOfWhole
 pub mod LawsOfGiving
 pub mod Examples
+pub mod Parting
 pub mod Ranges
 pub mod Standing
 pub mod KeepsIsProp

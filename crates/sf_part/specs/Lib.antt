@@ -2,6 +2,8 @@ pub mod Timed
 pub mod Steps
 pub mod Supplied
 pub mod First
+pub mod Starts
+pub mod Ends
 pub mod Given
 pub mod Of
 pub mod Lent

@@ -4,6 +4,8 @@
 //! - `part`: what a task has, owned; `stand` and `supply`: where it stands, and its units.
 //! - `log`: the events it made, stamped by its clock.
 //! - `local` and `stepping`: the events that are its own affair, and what it answers for the others.
+//! - `first`: the part with which a run begins, and the contents beside it.
+//! - `ending`: what a run ends with.
 //! - `content`, `guard`, `spots` and `entering`: the entry of a region with its resource's content.
 //! - `laws`: the law of parts.
 //! - `time`: clocks, stamps and logs.
@@ -12,8 +14,10 @@
 #![tactic(auto)]
 
 mod content;
+mod ending;
 mod entering;
 pub mod examples;
+mod first;
 mod guard;
 pub mod laws;
 mod local;
@@ -28,5 +32,5 @@ pub mod whole;
 
 pub use content::Content;
 pub use local::Local;
-pub use log::Stamped;
+pub use log::{Log, Stamped};
 pub use part::Part;
