@@ -1,12 +1,11 @@
 -- The variables that come up where a run begins.
 -- Names: `count_LAW` speaks of how many variables a resource has, `store_LAW` of the store that comes up.
 use Rattle.std.specs.Prelude.{◌≡◌, ℕ, zero, suc, ◌+◌, ◌-◌, ◌<◌, ◌≤◌, ◌==◌, Bool, true, false, ◌&&◌, ◌||◌, cond, leb, ltb, nat_lt, List, [], ◌∷◌, map, length, get_or, slice_get, slice_index_or, Option, Some, None, is_some}
-use Rattle.std.specs.List.{sum_by, list_any}
+use Rattle.std.specs.List.{sum_by}
 use Rattle.std.specs.Option.{unwrap_or}
-use Rattle.std.specs.Ordering.{nat_cmp, is_eq}
+use Rattle.std.specs.Ordering.{nat_cmp}
 use Rattle.std.specs.BTreeMap.{BTreeMap, get, is_at}
 use Rattle.std.specs.Map.{lookup}
-use Rattle.std.specs.BTreeSet.{BTreeSet, contains}
 use Rattle.std.proofs.Common.{true≢false, sym, ap, ap₂, ◌∙◌, refl, subst, inl, inr, arith}
 use Rattle.std.proofs.lemmas.Bool.{and_parts, cases_lt}
 use Rattle.std.proofs.lemmas.Bool.Decides.{Decides-ltb, nat_tests}
@@ -22,8 +21,8 @@ use Rattle.sf_base.specs.declared.value.Value.{Value}
 use Rattle.sf_base.specs.declared.value.Value.TheVariants.{Nil as nil}
 use Rattle.sf_base.specs.HeapStore.{Heap, Slot, shared, own, Store}
 use Rattle.sf_core.specs.declared.program.Resource.{Resource as CodeResource}
-use Rattle.sf_core.specs.Machine.Config.{Config, runs, in_room}
-use Rattle.sf_core.specs.Machine.Start.{Beginning, settled, fresh, Start, first_count, first_frames, first_holders, initial_config, IsKept}
+use Rattle.sf_core.specs.Machine.Config.{Config, in_room}
+use Rattle.sf_core.specs.Machine.Start.{Beginning, settled, fresh, Start, first_count, first_holders, initial_config, IsKept}
 use Rattle.sf_core.specs.Program.Init.{IsInitAmong, init_name}
 use Rattle.sf_core.specs.Program.Named.{IsFirstNamed}
 use Rattle.sf_core.specs.Machine.Step.{index_of}

@@ -1,6 +1,6 @@
 //! Where a run begins: the frames of its task, and what all tasks share then.
 
-ghost use Rattle.std.specs.Prelude.{◌≡◌, ◌+◌, ◌<◌, ◌≤◌, ◌*◌, ◌∷◌, [], cond, length, ltb, Some, None, is_some, IfOk, IfSome, List, ℕ};
+ghost use Rattle.std.specs.Prelude.{◌≡◌, ◌+◌, ◌<◌, ◌≤◌, ◌*◌, [], cond, length, ltb, Some, None, is_some, IfOk, IfSome, List, ℕ};
 ghost use Rattle.sf_base.specs.declared.ids.ProcId.{ProcId as F};
 ghost use Rattle.sf_base.specs.declared.ids.ResId.{ResId as R};
 ghost use Rattle.sf_base.specs.declared.limits.TheConstants.{OWN_VARIABLES};
@@ -31,8 +31,8 @@ use std::alloc::{AllocError, Global};
 use std::collections::BTreeMap;
 
 /// The frames of the entry's task where a run of procedure `f` begins: its own, and where that is
-/// fresh the one of the procedure that sets the resources up on top of it. An `Err` says that memory
-/// ran out.
+/// fresh the one of the procedure that sets the resources up on top of it. An `Err` says that
+/// memory ran out.
 pub fn first_stack<'p>(
     alloc: Global,
     p: &'p Program,

@@ -1,6 +1,6 @@
 //! The variables of resources come up in the store.
 
-ghost use Rattle.std.specs.Prelude.{◌≡◌, ◌<◌, ◌≤◌, ◌^◌, cond, Some, length, get_or, slice_get, OnOk};
+ghost use Rattle.std.specs.Prelude.{◌≡◌, ◌<◌, ◌^◌, cond, Some, length, get_or, slice_get, OnOk};
 ghost use Rattle.sf_base.specs.HeapStore.{Slot};
 ghost use Rattle.sf_foot.specs.Variables.{value_of};
 ghost use Rattle.sf_frame.specs.Checked.Resources.{counts_of, in_resource, in_resources, var_at};

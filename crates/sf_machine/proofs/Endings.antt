@@ -2,11 +2,9 @@
 -- Names: `values_LAW` of the values of variables, `ended_LAW` of the entry's task.
 use Rattle.std.specs.declared.alloc.Global.{Global}
 use Rattle.std.specs.Option.{option_map}
-use Rattle.std.specs.Prelude.{◌≡◌, ◌+◌, ◌<◌, ℕ, zero, suc, Vec, Option, Some, None, map, get_or, slice_get, List, [], ◌∷◌, ◌++◌, length, slice_index_or, unwrap_or}
+use Rattle.std.specs.Prelude.{◌≡◌, ◌+◌, ◌<◌, ℕ, zero, suc, Vec, Option, Some, None, map, get_or, slice_get, List, [], ◌∷◌, ◌++◌, length, unwrap_or}
 use Rattle.std.proofs.Common.{sym, ap, ◌∙◌, refl, subst, inl, inr, arith, length-append}
 use Rattle.std.proofs.lemmas.Bool.{cases_lt}
-use Rattle.std.proofs.Math.ListN.{get_or-append}
-use Rattle.std.proofs.Math.Seq.{get_or-append_seam}
 use Rattle.std.proofs.lemmas.List.{length-map}
 use Rattle.std.proofs.lemmas.Option.{get_or_from_slice_get, none-some, same_Some, slice_get-map, slice_get_within}
 use Rattle.sf_base.proofs.Lookup.{get-push_before, get-push_last}
@@ -16,7 +14,7 @@ use Rattle.sf_base.specs.declared.ids.Var.{Var}
 use Rattle.sf_base.specs.declared.ids.Var.TheVariants.{Own, Shared}
 use Rattle.sf_base.specs.declared.value.Value.{Value}
 use Rattle.sf_base.specs.declared.value.Value.TheVariants.{Nil as nil}
-use Rattle.sf_base.specs.HeapStore.{Slot, Store, own, shared}
+use Rattle.sf_base.specs.HeapStore.{Store, own, shared}
 use Rattle.sf_core.specs.Machine.Config.{Config}
 use Rattle.sf_core.specs.Machine.Start.{entry_slot}
 use Rattle.sf_core.specs.Machine.Step.{procedure_at}

@@ -1,17 +1,15 @@
 -- The part with which a run begins, and the contents of the resources beside it, once these are
 -- parted off from what is shared then.
 -- Names: `lookup-LAW` of lists by their places, `begun-LAW`.
-use Rattle.std.specs.Prelude.{◌≡◌, ◌≢◌, ◌↔◌, ◌⊎◌, ◌+◌, ◌-◌, ◌<◌, ◌≤◌, ◌==◌, ◌&&◌, ℕ, zero, suc, Bool, true, false, cond, leb, ltb, nat_lt, List, [], ◌∷◌, ◌++◌, get_or, length, map, slice_get, slice_index_or, Option, Some, None, Contains, is_some, unwrap_or}
+use Rattle.std.specs.Prelude.{◌≡◌, ◌≢◌, ◌+◌, ◌-◌, ◌<◌, ◌≤◌, ◌==◌, ◌&&◌, ℕ, zero, suc, Bool, true, false, cond, leb, ltb, nat_lt, List, [], ◌∷◌, ◌++◌, get_or, length, map, slice_get, slice_index_or, Option, Some, None, Contains, is_some, unwrap_or}
 use Rattle.std.specs.List.{AllByRecursion, AllZip}
-use Rattle.std.specs.Option.{option_map}
-use Rattle.std.specs.FinMap.{contains_key, get}
-use Rattle.std.proofs.Common.{true≢false, sym, ap, ap₂, ◌∙◌, refl, subst, inl, inr, arith}
+use Rattle.std.specs.FinMap.{get}
+use Rattle.std.proofs.Common.{true≢false, sym, ap, ◌∙◌, refl, subst, inl, inr, arith}
 use Rattle.std.proofs.lemmas.Bool.{and_parts, cases_lt}
 use Rattle.std.proofs.lemmas.Bool.Decides.{Decides-eqb, Decides-ltb, eqb_tells, nat_tests}
 use Rattle.std.proofs.lemmas.List.{append-nil, length-map}
 use Rattle.std.proofs.lemmas.Option.{none-some, same_Some, slice_get_within, unwrap_or-slice_get}
 use Rattle.std.proofs.lemmas.Slice.Zip.{AllZip-long}
-use Rattle.sf_base.proofs.Bools.{and-left}
 use Rattle.sf_base.proofs.Elements.{contains-nil}
 use Rattle.sf_base.proofs.HeapSplits.{at-same}
 use Rattle.sf_base.proofs.MapSplits.{map-same, splits-has_left}
@@ -21,20 +19,19 @@ use Rattle.sf_base.specs.declared.ids.ResId.{ResId}
 use Rattle.sf_base.specs.declared.ids.Var.{Var}
 use Rattle.sf_base.specs.declared.ids.Var.TheVariants.{Own, Shared as shared_variable}
 use Rattle.sf_base.specs.declared.limits.TheConstants.{STEPS}
-use Rattle.sf_base.specs.declared.path.Turn.{Turn}
 use Rattle.sf_base.specs.declared.value.Value.{Value}
 use Rattle.sf_base.specs.declared.value.Value.TheVariants.{Nil as nil}
-use Rattle.sf_base.specs.HeapStore.{Cell, Heap, Slot, Splits, Store, own, shared}
+use Rattle.sf_base.specs.HeapStore.{Cell, Heap, Slot, Store, own, shared}
 use Rattle.sf_calls.specs.Conditions.{Free}
 use Rattle.sf_calls.specs.Checked.Lemmas.Within.{level_within}
 use Rattle.sf_core.specs.Assertions.Occurs.{VarOccursIn}
 use Rattle.sf_core.specs.Assertions.Sat.{Sat, value}
-use Rattle.sf_core.specs.Machine.Config.{Item, items, in_room, Frame, Path, Config, evaluate}
+use Rattle.sf_core.specs.Machine.Config.{items, in_room, Path}
 use Rattle.sf_core.specs.Machine.HasThroughout.{HasThroughout}
 use Rattle.sf_core.specs.Machine.Start.{Beginning, settled, fresh, BeginsWith, IsKept, entry_frame, entry_slot, init_frame, first_count as slot_count, first_frames, first_holders, initial_config}
 use Rattle.sf_core.specs.Machine.Step.{procedure_at, room_for}
 use Rattle.sf_core.specs.Machine.Supplies.{units}
-use Rattle.sf_core.specs.Machine.Whole.{Content, IsUnion, Range, numbers, running}
+use Rattle.sf_core.specs.Machine.Whole.{Content, IsUnion, Range, running}
 use Rattle.sf_core.specs.Program.Formed.{IsFormed, IsOfResource, variable_count}
 use Rattle.sf_core.specs.Program.Heads.{Site}
 use Rattle.sf_core.specs.Program.Init.{is_init, sets_up}
@@ -50,17 +47,17 @@ use Rattle.sf_frame.specs.declared.shared.Shared.{Shared}
 use Rattle.sf_frame.specs.declared.stack.Stack.{Stack}
 use Rattle.sf_frame.specs.Frames.{stack_of}
 use Rattle.sf_frame.specs.Stores.{store_of as kept_in}
-use Rattle.sf_heap.specs.Cells.{AreAt, Cells, FieldValues, cell_of, heap_of}
+use Rattle.sf_heap.specs.Cells.{Cells, cell_of, heap_of}
 use Rattle.sf_part.specs.Checked.KeepsIsProp.{AreOwn}
 use Rattle.sf_part.specs.Checked.Parting.{ArePartedOff, IsPartedOff}
 use Rattle.sf_part.specs.Contents.{IsContentIn, content_of}
 use Rattle.sf_part.specs.declared.content.Content.{Content as CodeContent}
 use Rattle.sf_part.specs.declared.log.Stamped.{Stamped}
 use Rattle.sf_part.specs.declared.stand.Stand.TheVariants.{Runs}
-use Rattle.sf_part.specs.First.{First, first_count, first_holds}
+use Rattle.sf_part.specs.First.{first_count, first_holds}
 use Rattle.sf_part.specs.Given.{IsContentOf, is_variable_of}
-use Rattle.sf_part.specs.Keeps.{IsUnmade, Keeps}
-use Rattle.sf_part.specs.Of.{FrameIsOf, FramesAreOf, IsOf, IsVariable, StandIsOf, inside, times_held, times_left, without}
+use Rattle.sf_part.specs.Keeps.{Keeps}
+use Rattle.sf_part.specs.Of.{FrameIsOf, FramesAreOf, IsOf, IsVariable, inside, times_held, times_left, without}
 use Rattle.sf_part.specs.Parts.{part_with}
 use Rattle.sf_part.specs.Starts.{Starts}
 use Rattle.sf_part.specs.Steps.{AreFrom}
@@ -86,8 +83,7 @@ lookup-from : (n : ℕ) (ks : List CodeContent)
     → AreFrom n (map content_of ks)
 lookup-from n [] h = tt
 lookup-from n (k ∷ ks) h =
-    let first : k.resource.0 ≡ n = h 0 k refl ∙ omega arith in
-    (
+    let first : k.resource.0 ≡ n = h 0 k refl ∙ omega arith in (
       first,
       lookup-from (suc n) ks (λ i z e. let next : n + suc i ≡ suc n + i = omega arith in
           h (suc i) z e ∙ next),
@@ -207,7 +203,8 @@ begun-start : (p : Program) (f : ProcId) (is_fresh : Bool) (vars : Vars) (heap :
     (parts : List (List ℕ)) → (s : StartsWith p f is_fresh vars heap parts)
     → Begun p f vars s.procedure s.beginning
 begun-start p f is_fresh vars heap parts s = record {
-  init = go s.beginning (subst (λ b. BeginsWith b p s.starts.procedure store (heap_of heap)) s.begins
+  init = go s.beginning
+      (subst (λ b. BeginsWith b p s.starts.procedure store (heap_of heap)) s.begins
       s.starts.begins);
   holds_none = s.starts.holds_none;
   no_init = sets_up-is p f s.starts.procedure s.starts.there ∙ s.starts.no_init;
@@ -246,7 +243,8 @@ module _ (p : Program) (f : ProcId) (g : Procedure) (there : procedure_at p f �
       → is_some (st slot) ≡ true
   entry-room (shared r i) h = absurd (true≢false (sym h))
   entry-room (own e i) h =
-      let a = and_parts (e == 0) (leb g.references i && ltb i (g.references + (length g.names - g.references))) h in
+      let a = and_parts (e == 0)
+      (leb g.references i && ltb i (g.references + (length g.names - g.references))) h in
       let b = and_parts (leb g.references i)
       (ltb i (g.references + (length g.names - g.references))) a.1 in
       let below : i < g.references + (length g.names - g.references) =
@@ -279,7 +277,8 @@ module _ (p : Program) (n : ProcId) (h : Procedure) (there : procedure_at p n �
   init-room : (slot : Slot) → in_room (room_for h 0 first) slot ≡ true → is_some (st slot) ≡ true
   init-room (shared r i) e = absurd (true≢false (sym e))
   init-room (own d i) e =
-      let a = and_parts (d == 0) (leb first i && ltb i (first + (length h.names - h.references))) e in
+      let a = and_parts (d == 0)
+      (leb first i && ltb i (first + (length h.names - h.references))) e in
       let b = and_parts (leb first i) (ltb i (first + (length h.names - h.references))) a.1 in
       let below : i < first + (length h.names - h.references) =
       (Decides-ltb i (first + (length h.names - h.references))).0 b.1 in
@@ -356,7 +355,8 @@ module _ (p : Program) (formed : IsFormed p) (f : ProcId) (is_fresh : Bool) (var
       entry-of p f g s.there few start.no_init unfree
           (without (room_for h 0 (length g.names)) (kept_in new.store))
           (λ i less. before-room h (length g.names) (kept_in new.store) i less (own-kept i
-          (subst (λ (z : Beginning). i < slot_count z g) (sym e) (let l : i < length g.names = less in omega arith)))),
+          (subst (λ (z : Beginning). i < slot_count z g) (sym e)
+          (let l : i < length g.names = less in omega arith)))),
       tt,
     ),
   )
@@ -391,17 +391,20 @@ module _ (p : Program) (formed : IsFormed p) (f : ProcId) (is_fresh : Bool) (var
       let e : (n + 0) + ((0 + 0) + 0) ≡ n = omega arith in e)
 
   -- the part as it begins
-  module _ (stack : Stack) (keep : Bool) (base count : ℕ) (frames : stack_of stack ≡ first_frames b f g)
+  module _ (stack : Stack) (keep : Bool) (base count : ℕ)
+      (frames : stack_of stack ≡ first_frames b f g)
       (above : IsFreshFrom vars heap base) (most : count ≤ STEPS) where
     abbrev part : TimedPart
-    part = part_with [] (Runs stack) new (record { first = base; count = count } ∷ []) 0 keep [] count
+    part = part_with [] (Runs stack) new (record { first = base; count = count } ∷ []) 0 keep []
+        count
 
     pub begun-of : IsOf p part.part
     begun-of = record {
       stands = subst (FramesAreOf p (kept_in new.store)) (sym frames)
           (frames-of b refl start.init);
       inside = λ r. ap (times_held p r) frames ∙ times-first b start.init r
-          ∙ ap (λ (q : ResId → Bool). cond (q r) 1 0) (sym (holds-first b p (held_of new.held) held));
+          ∙ ap (λ (q : ResId → Bool). cond (q r) 1 0)
+          (sym (holds-first b p (held_of new.held) held));
     }
 
     -- a cell that is left is one of the start, below its first unit
@@ -568,7 +571,8 @@ module _ (p : Program) (formed : IsFormed p) (f : ProcId) (is_fresh : Bool) (var
 
     -- its cells are just that
     just : print.part ≡ heap_of k.heap
-    just = map-same print.part (heap_of k.heap) (λ l. go l (print.part l) (heap_of k.heap l) refl refl)
+    just = map-same print.part (heap_of k.heap)
+        (λ l. go l (print.part l) (heap_of k.heap l) refl refl)
       where
         among : (l : ℕ) (c : Cell) → heap_of k.heap l ≡ Some c
             → Contains (get_or parts (number + 1) []) l
@@ -595,7 +599,8 @@ module _ (p : Program) (formed : IsFormed p) (f : ProcId) (is_fresh : Bool) (var
             → value_of vars x ≡ unwrap_or (kept_in k.store (entry_slot x)) nil
         go (Own i) h = absurd h
         go (shared_variable q i) h =
-            let mine : is_variable_of k.resource (length it.resource.variables) (shared q i) ≡ true =
+            let mine : is_variable_of k.resource (length it.resource.variables) (shared q i)
+            ≡ true =
             (λ j. ((h.0 ∙ sym it.number_is) j == k.resource.0)
             && ltb i (length it.resource.variables))
             ∙ same-number k.resource.0 (ltb i (length it.resource.variables))
@@ -613,8 +618,8 @@ module _ (p : Program) (formed : IsFormed p) (f : ProcId) (is_fresh : Bool) (var
       variables = has-variables;
       invariant = sat-same_variables it.resource.invariant.level (value_of vars)
           (λ x. unwrap_or (kept_in k.store (entry_slot x)) nil) (λ n. nil) (heap_of k.heap) values
-          (subst (λ (h : Heap). Sat it.resource.invariant.level (value (value_of vars)) (λ n. nil) h)
-          just print.foot.sat);
+          (subst (λ (h : Heap). Sat it.resource.invariant.level (value (value_of vars)) (λ n. nil)
+          h) just print.foot.sat);
     }
 
   pub begun-all_in : AllByRecursion (λ (k : CodeContent). IsContentIn p k) contents
@@ -622,5 +627,6 @@ module _ (p : Program) (formed : IsFormed p) (f : ProcId) (is_fresh : Bool) (var
 
   pub begun-all_exactly : AllByRecursion
       (λ (k : CodeContent). IsContentOf p (content_of k).content) contents
-  begun-all_exactly = all-lookups (λ (k : CodeContent). IsContentOf p (content_of k).content) contents
+  begun-all_exactly = all-lookups (λ (k : CodeContent). IsContentOf p (content_of k).content)
+      contents
       begun-exactly

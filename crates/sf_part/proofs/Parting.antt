@@ -1,17 +1,16 @@
 -- The contents of the resources, parted off one after the other where a run begins.
 -- Names: `distinct-LAW` of lists without repeats, `sub-LAW` of cells among others, `parting-LAW`.
-use Rattle.std.specs.Prelude.{◌≡◌, ◌⊎◌, ◌+◌, ◌<◌, ◌≤◌, ◌==◌, ◌&&◌, ℕ, zero, suc, Bool, true, false, cond, ltb, nat_eq, List, [], ◌∷◌, ◌++◌, get_or, length, map, slice_get, Option, Some, None, Contains, is_some}
+use Rattle.std.specs.Prelude.{◌≡◌, ◌+◌, ◌<◌, ◌≤◌, ◌&&◌, ℕ, zero, suc, Bool, true, false, cond, ltb, nat_eq, List, [], ◌∷◌, ◌++◌, get_or, length, map, slice_get, Option, Some, None, Contains, is_some}
 use Rattle.std.specs.FinMap as cells
 use Rattle.std.specs.List.{AllByRecursion, IsDistinct, concat}
 use Rattle.std.proofs.Common.{true≢false, sym, ap, ◌∙◌, refl, subst, inl, inr, arith, length-append}
-use Rattle.std.proofs.lemmas.Bool.Decides.{Decides-eqb, eqb_tells, nat_tests}
+use Rattle.std.proofs.lemmas.Bool.Decides.{Decides-eqb, eqb_tells}
 use Rattle.std.proofs.lemmas.List.{append-nil}
 use Rattle.std.proofs.lemmas.Option.{slice_get_cases}
 use Rattle.std.proofs.lemmas.List.Elements.{Contains-append_left, Contains-append_right}
 use Rattle.sf_base.proofs.Elements.{contains-cons, contains-nil}
 use Rattle.sf_base.proofs.Lookup.{get-push_cases}
-use Rattle.sf_base.proofs.MapSplits.{splits-at_right, splits-comm, splits-has_left, splits-has_right}
-use Rattle.sf_base.proofs.Options.{some-or_none}
+use Rattle.sf_base.proofs.MapSplits.{splits-at_right, splits-comm, splits-has_left}
 use Rattle.sf_base.specs.declared.ids.ResId.{ResId}
 use Rattle.sf_base.specs.HeapStore.{Slot, Splits, own, shared}
 use Rattle.sf_core.specs.Machine.Whole.{IsUnion}
@@ -19,7 +18,7 @@ use Rattle.sf_core.specs.Program.Syntax.{Resource}
 use Rattle.sf_foot.specs.Starting.{HasWidth}
 use Rattle.sf_frame.specs.declared.shared.Shared.{Shared}
 use Rattle.sf_frame.specs.Stores.{store_of}
-use Rattle.sf_heap.specs.Cells.{AreAt, Cells, FieldValues, HasCell, heap_of}
+use Rattle.sf_heap.specs.Cells.{Cells, FieldValues, HasCell, heap_of}
 use Rattle.sf_part.specs.declared.content.Content.{Content}
 use Rattle.sf_part.specs.Given.{is_variable_of}
 use Rattle.sf_part.specs.Checked.Parting.{ArePartedOff, IsPartedOff, PartsOff}
@@ -159,19 +158,18 @@ module _ (resources : List Resource) (parts : List (List ℕ)) (n : ℕ) (old be
   rest-same slot e = sym (splits-at_right slot more.store
       (more.variables slot ∙ ap (λ b. cond b (store_of between.store slot) None) e))
 
-  pub parting-more : (all : List Content) → all ≡ contents ++ k ∷ []
-      → ArePartedOff resources parts (n + 1) old all new
-  parting-more all is = subst (λ ks. ArePartedOff resources parts (n + 1) old ks new) (sym is) (record {
+  one-more : ArePartedOff resources parts (n + 1) old (contents ++ k ∷ []) new
+  one-more = record {
     each = omega (arith, length-append contents (k ∷ []), before.each);
-    heap = union-unfocus_tail (λ (z : Content). heap_of z.heap) (heap_of new.heap ∷ []) contents k []
-        (heap_of old.heap)
+    heap = union-unfocus_tail (λ (z : Content). heap_of z.heap) (heap_of new.heap ∷ []) contents
+        k [] (heap_of old.heap)
         (subst (λ (zs : List Content). IsUnion (heap_of old.heap)
         (heap_of new.heap ∷ heap_of k.heap ∷ map (λ (z : Content). heap_of z.heap) zs))
         (sym (append-nil contents))
         (union-part (heap_of old.heap) (heap_of between.heap) (heap_of new.heap) (heap_of k.heap)
         (map (λ (z : Content). heap_of z.heap) contents) (splits-comm more.heap) before.heap));
-    store = union-unfocus_tail (λ (z : Content). store_of z.store) (store_of new.store ∷ []) contents
-        k [] (store_of old.store)
+    store = union-unfocus_tail (λ (z : Content). store_of z.store) (store_of new.store ∷ [])
+        contents k [] (store_of old.store)
         (subst (λ (zs : List Content). IsUnion (store_of old.store)
         (store_of new.store ∷ store_of k.store ∷ map (λ (z : Content). store_of z.store) zs))
         (sym (append-nil contents))
@@ -195,4 +193,9 @@ module _ (resources : List Resource) (parts : List (List ℕ)) (n : ℕ) (old be
     own = λ event index. rest-same (own event index) refl ∙ before.own event index;
     wide = λ width h. sub-width width between.heap new.heap k.heap (splits-comm more.cells)
         (before.wide width h);
-  })
+  }
+
+  pub parting-more : (all : List Content) → all ≡ contents ++ k ∷ []
+      → ArePartedOff resources parts (n + 1) old all new
+  parting-more all is =
+      subst (λ ks. ArePartedOff resources parts (n + 1) old ks new) (sym is) one-more

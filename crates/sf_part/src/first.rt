@@ -27,8 +27,8 @@ use std::alloc::{AllocError, Global};
 
 impl<'p> Part<'p> {
     /// The part of the entry's task where a run of procedure `f` begins, with so many units, from
-    /// the start's first one on, and the content of each resource, in file order: its variables, and
-    /// the cells of its invariant's footprint, which move. From a fresh start the part has the
+    /// the start's first one on, and the content of each resource, in file order: its variables,
+    /// and the cells of its invariant's footprint, which move. From a fresh start the part has the
     /// resources' variables itself and holds them all, and there are no contents. Clock and stamps
     /// are 0, and the part keeps a log where it is to. An `Err` says that memory ran out.
     pub fn first(

@@ -3,22 +3,21 @@ use Rattle.std.proofs.lemmas.List.{length-map}
 use Rattle.std.proofs.lemmas.Option.{slice_get_within}
 use Rattle.sf_core.specs.Program.View.{procedure_of}
 use Rattle.sf_base.proofs.Options.{some-once}
-use Rattle.sf_core.specs.Machine.Config.{Common}
 use Rattle.sf_core.specs.Machine.Start.{Beginning, first_count, initial_config}
 use Rattle.sf_core.specs.Machine.Step.{procedure_at}
 use Rattle.sf_core.specs.Program.ProgramView.{program_of}
-use Rattle.sf_core.specs.Program.Syntax.{Procedure}
 use Rattle.sf_foot.specs.Starting.{IsBeginning, store_of}
 use Rattle.sf_heap.specs.Cells.{heap_of}
 use Rattle.sf_frame.specs.Checked.Firsts.{beginning_at}
-use Rattle.sf_frame.specs.Commons.{common_of, held_of}
+use Rattle.sf_frame.specs.Commons.{held_of}
 use Rattle.sf_frame.proofs.Firsts.{beginning_kept, common_as, holders_same, store_all}
 use Rattle.sf_frame.proofs.first.first_shared.Goals as goal
 
 pub first_count-requires-clause-there : goal.first_count-requires-clause-there
 first_count-requires-clause-there c =
     let s = c.requires.1 in
-    let within = slice_get_within (program_of c.args.p.now).procedures c.args.f.0 s.procedure s.there in
+    let within = slice_get_within (program_of c.args.p.now).procedures c.args.f.0 s.procedure
+    s.there in
     omega (arith, within, length-map c.args.p.now.procedures.items procedure_of)
 
 pub returns-clause-common : goal.returns-clause-common
@@ -40,13 +39,13 @@ returns-clause-common c = λ g b at kind.
       held = c.in_ok-held.held;
       alloc = c.args.alloc;
     }) refl
-        (λ slot. c.in_ok-store.ensures slot
-        ∙ store_all p c.args.f s.beginning s.procedure c.args.vars.now
-        (heap_of c.args.heap) s.config s.starts
-        c.first_count.result rs (c.first_count.ensures.count s.procedure s.there
-        ∙ ap (λ (z : Beginning). first_count z s.procedure) same) refl slot)
-        (holders_same p rs init s.beginning c.held_count.result
-        (held_of c.in_ok-held.held) refl same
-        c.first_count.ensures.found c.held_count.ensures c.in_ok-held.ensures)
+    (λ slot. c.in_ok-store.ensures slot
+    ∙ store_all p c.args.f s.beginning s.procedure c.args.vars.now
+    (heap_of c.args.heap) s.config s.starts
+    c.first_count.result rs (c.first_count.ensures.count s.procedure s.there
+    ∙ ap (λ (z : Beginning). first_count z s.procedure) same) refl slot)
+    (holders_same p rs init s.beginning c.held_count.result
+    (held_of c.in_ok-held.held) refl same
+    c.first_count.ensures.found c.held_count.ensures c.in_ok-held.ensures)
     ∙ (λ i. (initial_config (kinds i) p c.args.f (procedures i)
-        (store_of (kinds i) (procedures i) c.args.vars.now) (heap_of c.args.heap)).common)
+    (store_of (kinds i) (procedures i) c.args.vars.now) (heap_of c.args.heap)).common)

@@ -1,4 +1,4 @@
-use Rattle.std.proofs.Common.{◌≡◌, ◌∙◌, ap}
+use Rattle.std.proofs.Common.{◌∙◌, ap}
 use Rattle.std.proofs.lemmas.Result.{IfOk-weaker}
 use Rattle.sf_core.specs.Machine.Start.{Beginning, first_frames}
 use Rattle.sf_core.specs.Program.ProgramView.{program_of}

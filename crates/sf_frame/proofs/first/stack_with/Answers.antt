@@ -35,7 +35,8 @@ returns-in_ok-top-in-Some c = IfOk-weaker c.above.result _ _ (λ stack is g e.
     let entry = procedure_of c.proc.result.now in
     let top = procedure_of c.proc-in-Some.result.now in
     let same : entry ≡ g = some-once (procedure_at p c.args.f) entry g c.proc.ensures.meaning e in
-    let begins : beginning_at p c.args.init ≡ beginning_at p (Some n) = ap (beginning_at p) c.in-Some.is in
+    let begins : beginning_at p c.args.init ≡ beginning_at p (Some n) =
+    ap (beginning_at p) c.in-Some.is in
     is
     ∙ (λ i. c.in_ok-top-in-Some.ensures i ∷ c.in_ok-entry.ensures i ∷ [])
     ∙ (λ i. init_frame n top (c.own_count.ensures.count g e i) ∷ entry_frame c.args.f (same i) ∷ [])

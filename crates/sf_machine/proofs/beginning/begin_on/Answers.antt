@@ -1,9 +1,10 @@
-use Rattle.std.proofs.Common.{◌≡◌, ap, arith, refl}
+use Rattle.std.proofs.Common.{ap, arith, refl}
 use Rattle.std.proofs.lemmas.List.{length-map}
 use Rattle.std.proofs.lemmas.Option.{slice_get_within}
 use Rattle.sf_core.specs.Machine.Config.{runs}
 use Rattle.sf_core.specs.Program.ProgramView.{program_of}
 use Rattle.sf_core.specs.Program.View.{procedure_of}
+use Rattle.sf_machine.specs.declared.task.Task.TheVariants.{Runs}
 use Rattle.sf_machine.proofs.Reaching.{reached_begin}
 use Rattle.sf_machine.proofs.Tables.{begins_as, used_first}
 use Rattle.sf_machine.proofs.beginning.begin_on.Goals as goal
@@ -26,7 +27,7 @@ returns-clause-begins c =
       is = begins_as p c.args.f s.procedure s.beginning c.args.vars.now c.args.heap (record {
         common = c.in_ok-common.common;
         used = c.insert.new.self;
-        tasks = _;
+        tasks = Runs c.in_ok-stack.stack;
       }) (c.in_ok-common.ensures.common s.procedure s.beginning s.there s.kind)
           (used_first c.new-used.result c.insert.new.self c.new-used.ensures.empty
           c.in_ok-insert.ensures.updates.0)

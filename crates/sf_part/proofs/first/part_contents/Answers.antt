@@ -18,8 +18,12 @@ loop-number-init c =
 pub variable_count-count-requires : goal.variable_count-count-requires
 variable_count-count-requires c =
     item-there (program_of c.args.p.now).resources c.loop-number.number
-    (omega (arith, c.loop-number-test.true, c.requires.few,
-    length-map c.args.p.now.resources.items resource_of))
+    (omega (
+      arith,
+      c.loop-number-test.true,
+      c.requires.few,
+      length-map c.args.p.now.resources.items resource_of,
+    ))
 
 pub part_content-requires : goal.part_content-requires
 part_content-requires c =
@@ -41,8 +45,12 @@ loop-number-preserved c =
     c.index-parts-number.result refl (omega (arith, c.loop-number-test.true))
     c.index-parts-number.is) in
     let found = item-there (program_of c.args.p.now).resources c.loop-number.number
-    (omega (arith, c.loop-number-test.true, c.requires.few,
-    length-map c.args.p.now.resources.items resource_of)) in
+    (omega (
+      arith,
+      c.loop-number-test.true,
+      c.requires.few,
+      length-map c.args.p.now.resources.items resource_of,
+    )) in
     parting-more (program_of c.args.p.now).resources c.args.parts.now c.loop-number.number
     c.args.shared.now c.loop-number.shared c.part_content.new.shared c.loop-number.contents.items
     c.in_ok-content.content (record { 0 = c.loop-number.number }) c.variable_count-count.result

@@ -1,4 +1,4 @@
-use Rattle.std.proofs.Common.{◌≡◌, ◌-◌, ◌∙◌, ℕ, nat_eq, true, List, Contains, arith, get_or, length, map, refl, replicate, subst, sym, ap}
+use Rattle.std.proofs.Common.{◌≡◌, ◌-◌, ◌∙◌, ℕ, nat_eq, true, List, Contains, arith, length, map, replicate, subst, sym, ap}
 use Rattle.std.specs.FinMap.{contains_key}
 use Rattle.std.specs.List.{IsDistinct, concat}
 use Rattle.std.proofs.lemmas.Bool.Decides.{Decides-eqb}
@@ -23,8 +23,8 @@ use Rattle.sf_part.proofs.part.Part.first.Goals as goal
 pub part_contents-requires-clause-few : goal.part_contents-requires-clause-few
 part_contents-requires-clause-few c =
     let s = c.requires.starts in
-    let most = begun-few (program_of c.args.p.now.program) s.procedure c.args.start.fresh s.beginning
-    c.args.start.vars c.args.start.heap c.args.start.parts.items s.kind s.footprints in
+    let most = begun-few (program_of c.args.p.now.program) s.procedure c.args.start.fresh
+    s.beginning c.args.start.vars c.args.start.heap c.args.start.parts.items s.kind s.footprints in
     let same = ap length c.deref.ensures.value in
     omega (arith, most, same, length-map c.args.p.now.program.resources.items resource_of)
 

@@ -8,8 +8,11 @@ use Rattle.sf_part.proofs.part.Part.into_end.Goals as goal
 pub returns : goal.returns
 returns c =
     let k = item-there (program_of c.args.p.now).procedures c.args.f.0
-    (omega (arith, c.requires.procedure,
-    length-map c.args.p.now.procedures.items procedure_of)) in
+    (omega (
+      arith,
+      c.requires.procedure,
+      length-map c.args.p.now.procedures.items procedure_of,
+    )) in
     let count = c.parameter_count.ensures k.0 k.1 in
     record {
       procedure = k.0;
