@@ -16,9 +16,9 @@ use Rattle.sf_core.proofs.Assertions.Determined.{determined-precise}
 use Rattle.sf_part.specs.Checked.LawsOfGiving.{GivenContentsAreOne}
 use Rattle.sf_part.specs.Given.{is_variable_of}
 
--- parts of one store that have the same slots have the same values
-pub given-same : (o q whole : Option Value) → is_some o ≡ is_some q
-    → ((v : Value) → o ≡ Some v → whole ≡ Some v) → ((v : Value) → q ≡ Some v → whole ≡ Some v)
+-- parts of one map that have the same keys have the same there
+pub given-same : {X : Type 0} (o q whole : Option X) → is_some o ≡ is_some q
+    → ((v : X) → o ≡ Some v → whole ≡ Some v) → ((v : X) → q ≡ Some v → whole ≡ Some v)
     → o ≡ q
 given-same None None whole e f g = refl
 given-same None (Some w) whole e f g = absurd (true≢false (sym e))

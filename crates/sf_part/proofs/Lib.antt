@@ -2,6 +2,13 @@ pub mod Ranges
 pub mod Occur
 pub mod Sites
 pub mod Owned
+pub mod Orders
+pub mod Unheld
+pub mod Spared
+pub mod Exits
+pub mod GivenUp
+pub mod Rows
+pub mod Footprints
 pub mod Ready
 pub mod Planned
 pub mod Returning

@@ -11,3 +11,5 @@ pub mod KeepsIsProp
 pub mod Meeting
 pub mod Stepping
 pub mod Taking
+pub mod Sharing
+pub mod Giving

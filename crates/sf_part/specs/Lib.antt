@@ -11,6 +11,7 @@ pub mod Answers
 pub mod Contents
 pub mod Guards
 pub mod Entry
+pub mod Leaving
 pub mod Parts
 pub mod PartView
 pub mod Checked

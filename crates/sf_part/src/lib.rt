@@ -5,6 +5,7 @@
 //! - `log`: the events it made, stamped by its clock.
 //! - `local` and `stepping`: the events that are its own affair, and what it answers for the others.
 //! - `content`, `guard`, `spots` and `entering`: the entry of a region with its resource's content.
+//! - `share` and `leaving`: the exit, which gives up just that. `fault`: why it may not.
 //! - `laws`: the law of parts.
 //! - `time`: clocks, stamps and logs.
 //! - `whole`: what a part tells of the whole.
@@ -14,11 +15,14 @@
 mod content;
 mod entering;
 pub mod examples;
+mod fault;
 mod guard;
 pub mod laws;
+mod leaving;
 mod local;
 mod log;
 mod part;
+mod share;
 mod spots;
 mod stand;
 mod stepping;
@@ -27,6 +31,7 @@ pub mod time;
 pub mod whole;
 
 pub use content::Content;
+pub use fault::PartFault;
 pub use local::Local;
 pub use log::Stamped;
 pub use part::Part;
