@@ -1,6 +1,6 @@
 -- A task that has left the region of a resource, and gave its content up.
 -- Names: `exit-LAW`.
-use Rattle.std.specs.Prelude.{◌≡◌, ◌≢◌, ◌⊎◌, ◌==◌, ◌+◌, ◌<◌, ◌≤◌, ℕ, Bool, true, false, cond, ltb, IsTrue, ◌↔◌, List, [], ◌∷◌, drop, length, Option, Some, None, Contains, is_some, unwrap_or}
+use Rattle.std.specs.Prelude.{◌≡◌, ◌≢◌, ◌==◌, ◌<◌, ◌≤◌, ℕ, Bool, true, false, cond, ltb, IsTrue, ◌↔◌, List, [], ◌∷◌, drop, length, Option, Some, None, is_some}
 use Rattle.std.specs.FinMap.{get}
 use Rattle.std.specs.List.{slice_get}
 use Rattle.std.proofs.Common.{true≢false, sym, ap, ◌∙◌, refl, subst, inl, inr, arith}
@@ -17,46 +17,40 @@ use Rattle.sf_base.specs.declared.ids.Var.{Var}
 use Rattle.sf_base.specs.declared.ids.Var.TheVariants.{Own, Shared}
 use Rattle.sf_base.specs.declared.value.Value.{Value}
 use Rattle.sf_base.specs.declared.value.Value.TheVariants.{Nil as nil}
-use Rattle.sf_base.specs.HeapStore.{Heap, Slot, Splits, Store, own, shared}
+use Rattle.sf_base.specs.HeapStore.{Heap, Slot, Store, own, shared}
 use Rattle.sf_calls.specs.Conditions.{Enters}
 use Rattle.sf_calls.specs.FirstBreach.{Conditions}
 use Rattle.sf_core.specs.Assertions.Sat.{Sat, value}
-use Rattle.sf_core.specs.Checked.Machine.InOrder.{exits, regions, throughout}
+use Rattle.sf_core.specs.Checked.Machine.InOrder.{regions}
 use Rattle.sf_core.specs.Machine.Config.{Item, command, leave, Fixed, Frame, runs, Path, Common, evaluate}
-use Rattle.sf_core.specs.Machine.Enabled.{variable, Reads, Writes}
 use Rattle.sf_core.specs.Machine.Next.{does, leaves, returns, frame_next, next}
 use Rattle.sf_core.specs.Machine.Start.{entry_slot}
 use Rattle.sf_core.specs.Machine.Step.{set_holder}
 use Rattle.sf_core.specs.Machine.Supplies.{has, NextTakes}
-use Rattle.sf_core.specs.Machine.Whole.{Part, Content, running, numbers}
+use Rattle.sf_core.specs.Machine.Whole.{Part, running, numbers}
 use Rattle.sf_core.specs.Program.Formed.{IsFormed, variable_count}
 use Rattle.sf_core.specs.Program.Syntax.{Program, Resource}
 use Rattle.sf_core.proofs.HeadsWithin.{regions-within, sites-within}
-use Rattle.sf_foot.specs.Footprint.{IsFootprint}
 use Rattle.sf_foot.specs.Starting.{HasWidth}
 use Rattle.sf_frame.specs.Checked.Frames.{moved}
 use Rattle.sf_frame.specs.Checked.Nexts.{frames_with}
 use Rattle.sf_frame.specs.Commons.{common_of}
 use Rattle.sf_frame.specs.declared.frame.Way.TheVariants.{Past}
 use Rattle.sf_frame.specs.declared.stack.Change.TheVariants.{GoOn}
-use Rattle.sf_frame.specs.Stores.{store_of}
 use Rattle.sf_heap.specs.Cells.{cell_of}
 use Rattle.sf_part.specs.Checked.Giving.{IsGivenUp}
 use Rattle.sf_part.specs.Checked.Sharing.{HasNoShare, IsOwnOf, IsShare, seen_in}
-use Rattle.sf_part.specs.Checked.Standing.{Runs}
 use Rattle.sf_part.specs.Checked.Stepping.{own_event}
 use Rattle.sf_part.specs.Contents.{IsContentIn, content_of}
 use Rattle.sf_part.specs.declared.content.Content.{Content as CodeContent}
 use Rattle.sf_part.specs.declared.part.Part.{Part as CodePart}
 use Rattle.sf_part.specs.declared.share.Share.{Share}
-use Rattle.sf_part.specs.Given.{Gives, IsContentOf, is_variable_of}
+use Rattle.sf_part.specs.Given.{Gives, is_variable_of}
 use Rattle.sf_part.specs.Leaving.{HasNoContent, IsAtExit}
 use Rattle.sf_part.specs.Of.{AreInOrder, FramesAreOf, IsVariable, StandIsOf, frames_in, inside}
 use Rattle.sf_part.specs.PartView.{IsPartOf, part_of}
 use Rattle.sf_part.specs.Stands.{stand_in}
-use Rattle.sf_part.specs.Steps.{Exits, HasInHand, IsExit, common_of as part_common}
-use Rattle.sf_part.specs.Timed.{TimedPart}
-use Rattle.sf_part.proofs.Entrance.{made-stands}
+use Rattle.sf_part.specs.Steps.{Exits, HasInHand, common_of as part_common}
 use Rattle.sf_part.proofs.Giving.{given-same}
 use Rattle.sf_part.proofs.Held.{times-regions}
 use Rattle.sf_part.proofs.Made.{part-common}
@@ -71,7 +65,8 @@ pub leave-shape : (frames : List Frame) (f : Fixed) (below : List Frame) (r : Re
 leave-shape [] f below r rest e = absurd (cc)
 leave-shape (g ∷ others) f below r rest e = go g.todo refl e
   where
-    go : (todo : List Item) → g.todo ≡ todo → frame_next g.fixed others g.todo ≡ leaves f below r rest
+    go : (todo : List Item) → g.todo ≡ todo
+        → frame_next g.fixed others g.todo ≡ leaves f below r rest
         → g ∷ others ≡ frames_with f (leave r ∷ rest) below
     go [] i h = absurd (let k : returns g.fixed others ≡ leaves f below r rest =
         sym (ap (frame_next g.fixed others) i) ∙ h in cc)
@@ -213,7 +208,8 @@ module _ (p : Program) (formed : IsFormed p) (a : CodePart) (of : IsPartOf p a) 
     held : (part_common (part_of a).part).held r ≡ Some a.task
     held = ap (λ z. cond z (Some a.task) None) exit-holds
 
-    holders-after : (part_common both).held ≡ (set_holder r None (part_common (part_of a).part)).held
+    holders-after : (part_common both).held ≡ (set_holder r None (part_common
+        (part_of a).part)).held
     holders-after = ap (λ (z : Common). z.held) (part-common b) ∙ made.held
         ∙ (λ i. λ q. cond (q.0 == r.0) None
         (ap (λ (z : Common). z.held q) (sym (part-common a)) i))
@@ -264,7 +260,8 @@ module _ (p : Program) (formed : IsFormed p) (a : CodePart) (of : IsPartOf p a) 
     }
 
     -- The content is just the resource's
-    of_resource : (q : ResId) (i : ℕ) → is_variable_of r (length is.resource.variables) (shared q i) ≡ true
+    of_resource : (q : ResId) (i : ℕ) → is_variable_of r (length is.resource.variables)
+        (shared q i) ≡ true
         → (q ≡ r) × (i < length is.resource.variables)
     of_resource q i e =
         let low : q.0 == r.0 ≡ true = and-left (q.0 == r.0) _ e in
@@ -285,7 +282,8 @@ module _ (p : Program) (formed : IsFormed p) (a : CodePart) (of : IsPartOf p a) 
 
     own-there : (slot : Slot)
         → is_some (cond (is_variable_of r (length is.resource.variables) slot)
-        ((common_of a.shared).store slot) None) ≡ is_variable_of r (length is.resource.variables) slot
+        ((common_of a.shared).store slot) None) ≡ is_variable_of r
+        (length is.resource.variables) slot
     own-there (own e i) = refl
     own-there (shared q i) =
         go (is_variable_of r (length is.resource.variables) (shared q i)) (variable-there q i)
@@ -348,8 +346,10 @@ module _ (p : Program) (formed : IsFormed p) (a : CodePart) (of : IsPartOf p a) 
     }
 
     -- The part is still the program's
-    back : (x : Var) → IsVariable p (record { fixed = s.fixed; todo = s.rest }) (frames_are.0).procedure x
-        → IsVariable p (record { fixed = s.fixed; todo = leave r ∷ s.rest }) (frames_are.0).procedure x
+    back : (x : Var) → IsVariable p (record { fixed = s.fixed; todo = s.rest })
+        (frames_are.0).procedure x
+        → IsVariable p (record { fixed = s.fixed; todo = leave r ∷ s.rest })
+        (frames_are.0).procedure x
     back (Own n) v = v
     back (Shared q i) v = (
       v.0,
@@ -380,7 +380,8 @@ module _ (p : Program) (formed : IsFormed p) (a : CodePart) (of : IsPartOf p a) 
         ap is_some (sym (splits-at_left slot made.store (lacks slot not_gone))) ∙ h
       where
         lacks : (slot : Slot) → (GoneOf r slot → ⊥) → (content_of k).content.store slot ≡ None
-        lacks (own e i) n = is_some-false ((content_of k).content.store (own e i)) (slots-are (own e i))
+        lacks (own e i) n = is_some-false ((content_of k).content.store (own e i)) (slots-are
+            (own e i))
         lacks (shared q i) n =
             go (is_variable_of r (length is.resource.variables) (shared q i)) refl
           where
@@ -415,7 +416,8 @@ module _ (p : Program) (formed : IsFormed p) (a : CodePart) (of : IsPartOf p a) 
         go true e true i before held =
             let left : regions p q kept ≡ 0 =
             ap (λ z. regions p z kept) (resource-same q r e) ∙ exit-left in
-            let then_ : one_if (is_some (cond (q.0 == r.0) None ((common_of a.shared).held q))) ≡ 0 =
+            let then_ : one_if (is_some (cond (q.0 == r.0) None
+            ((common_of a.shared).held q))) ≡ 0 =
             ap (λ z. one_if (is_some (cond z None ((common_of a.shared).held q)))) e in
             omega arith
         go false e false i before held =

@@ -17,7 +17,8 @@ module _ (keeps : OrderKeepsMeaning) (a o : Assertion) (ord : IsOrderOf a o)
   values : known ≡ vars
   values = λ i x. same x i
 
-  pub foot-found : (ls : List ℕ) → IsFootprint o.level known heap ls → IsFootprint a.level vars heap ls
+  pub foot-found : (ls : List ℕ) → IsFootprint o.level known heap ls
+      → IsFootprint a.level vars heap ls
   foot-found ls f = subst (λ z. IsFootprint a.level z heap ls) values (record {
     part = f.part;
     foot = record {

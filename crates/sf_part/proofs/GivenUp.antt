@@ -1,7 +1,7 @@
 -- What is there once a share of a resource is out, and the resource is free.
 -- Names: `given-LAW`.
 use Rattle.std.specs.Prelude.{◌≡◌, ◌==◌, ℕ, Bool, true, false, cond, Option, Some, None, is_some}
-use Rattle.std.proofs.Common.{sym, ap, ◌∙◌, refl, subst}
+use Rattle.std.proofs.Common.{sym, ap, ◌∙◌, subst}
 use Rattle.sf_base.proofs.MapSplits.{map-same, splits-comm, splits-lacks_both}
 use Rattle.sf_base.proofs.Options.{is_some-false}
 use Rattle.sf_base.specs.declared.ids.ResId.{ResId}

@@ -5,7 +5,6 @@ use Rattle.std.specs.List.{slice_get}
 use Rattle.std.proofs.Common.{true≢false, sym, ap, ◌∙◌, refl, subst}
 use Rattle.std.proofs.lemmas.Option.{same_Some}
 use Rattle.sf_base.proofs.MapSplits.{map-same, splits-cancel_right, splits-comm, splits-has_right}
-use Rattle.sf_base.specs.declared.value.Value.{Value}
 use Rattle.sf_base.specs.declared.value.Value.TheVariants.{Nil as nil}
 use Rattle.sf_base.specs.HeapStore.{Slot, Splits, Store}
 use Rattle.sf_core.specs.Assertions.Sat.{Sat}

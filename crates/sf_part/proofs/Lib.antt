@@ -9,6 +9,8 @@ pub mod Exits
 pub mod GivenUp
 pub mod Rows
 pub mod Footprints
+pub mod Handed
+pub mod HandedOut
 pub mod Ready
 pub mod Planned
 pub mod Returning

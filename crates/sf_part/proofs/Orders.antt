@@ -1,15 +1,15 @@
--- The frames of a part have called one another, and entered what they are inside of: an event keeps that.
+-- The frames of a part have called one another, and entered what they are inside of: an event keeps
+-- that.
 -- Names: `order-LAW`.
-use Rattle.std.specs.Prelude.{◌≡◌, ◌⊎◌, ◌++◌, ℕ, zero, suc, false, List, [], ◌∷◌, None, Contains}
+use Rattle.std.specs.Prelude.{◌≡◌, ◌++◌, ℕ, zero, suc, List, [], ◌∷◌, None, Contains}
 use Rattle.std.proofs.Common.{sym, ap, ◌∙◌, refl, subst, inl, inr}
 use Rattle.sf_base.proofs.Elements.{contains-cons, contains-nil, contains-rest, contains-single_of}
-use Rattle.sf_base.specs.declared.ids.ProcId.{ProcId}
 use Rattle.sf_base.specs.declared.ids.ResId.{ResId}
 use Rattle.sf_base.specs.declared.ids.Var.{Var}
 use Rattle.sf_base.specs.declared.ids.Var.TheVariants.{Own, Shared}
 use Rattle.sf_base.specs.declared.place.Place.{Place}
-use Rattle.sf_base.specs.HeapStore.{Slot, Store, own, shared}
-use Rattle.sf_calls.specs.Conditions.{Calls, Enters}
+use Rattle.sf_base.specs.HeapStore.{Slot, Store, shared}
+use Rattle.sf_calls.specs.Conditions.{Calls}
 use Rattle.sf_calls.specs.Outside.{IsAmong}
 use Rattle.sf_calls.specs.Reaches.{directly, through}
 use Rattle.sf_core.specs.declared.assertion.Test.{Test}
@@ -18,11 +18,10 @@ use Rattle.sf_core.specs.declared.command.Occurrence.{Occurrence}
 use Rattle.sf_core.specs.Machine.Config.{Item, command, leave, items, Room, Fixed, Frame, Task, runs, Common}
 use Rattle.sf_core.specs.Machine.Next.{next}
 use Rattle.sf_core.specs.Machine.Step.{Event, Does, TaskStep, callee_frame, own_slot, room_for, slots_of, task_with}
-use Rattle.sf_core.specs.Program.Heads.{Site, head_calls, sites}
-use Rattle.sf_core.specs.Program.Init.{sets_up}
+use Rattle.sf_core.specs.Program.Heads.{head_calls, sites}
 use Rattle.sf_core.specs.Program.Syntax.{Block, Call, Command, assign, look_up, mutate, new, dispose, if, while, call, fork, with, Procedure, Program}
 use Rattle.sf_frame.specs.Checked.Nexts.{frames_with}
-use Rattle.sf_part.specs.Of.{AreInOrder, FrameIsOf, FramesAreOf, HasEntered, HasNothing, IsAbove, IsPassed, inside}
+use Rattle.sf_part.specs.Of.{AreInOrder, FrameIsOf, FramesAreOf, HasEntered, IsPassed, inside}
 use Rattle.sf_part.specs.Steps.{IsLocal, IsPrivate}
 use Rattle.sf_part.proofs.Sites.{inside-block, inside-items, sites-first}
 

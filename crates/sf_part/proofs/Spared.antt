@@ -1,15 +1,15 @@
 -- Frames that name none of the slots that a part gives up are the program's in what is left.
 -- Names: `spare-LAW`.
-use Rattle.std.specs.Prelude.{◌≡◌, ◌⊎◌, ◌==◌, ◌&&◌, ◌+◌, ◌<◌, ℕ, Bool, true, false, cond, ltb, List, [], ◌∷◌, length, None, Contains, is_some}
+use Rattle.std.specs.Prelude.{◌≡◌, ◌==◌, ◌&&◌, ◌<◌, ℕ, true, cond, ltb, List, [], ◌∷◌, length, Contains, is_some}
 use Rattle.std.specs.List.{AllByRecursion}
-use Rattle.std.proofs.Common.{true≢false, sym, ap, ap₂, ◌∙◌, refl, subst, inl, inr, arith}
+use Rattle.std.proofs.Common.{true≢false, sym, ap, ap₂, ◌∙◌, subst, inl, inr, arith}
 use Rattle.std.proofs.lemmas.Bool.Decides.{nat_tests}
 use Rattle.sf_base.proofs.Elements.{contains-cons, contains-nil}
 use Rattle.sf_base.proofs.HeapSplits.{at-self}
 use Rattle.sf_base.specs.declared.ids.ResId.{ResId}
 use Rattle.sf_base.specs.declared.ids.Var.{Var}
 use Rattle.sf_base.specs.declared.ids.Var.TheVariants.{Own, Shared}
-use Rattle.sf_base.specs.HeapStore.{Slot, Store, own, shared}
+use Rattle.sf_base.specs.HeapStore.{Slot, Store, shared}
 use Rattle.sf_calls.specs.Conditions.{Enters, Free, Takes}
 use Rattle.sf_calls.specs.FirstBreach.{Conditions}
 use Rattle.sf_calls.specs.Reaches.{directly}
@@ -17,9 +17,8 @@ use Rattle.sf_core.specs.Checked.Machine.InOrder.{exits, regions, throughout}
 use Rattle.sf_core.specs.Machine.Config.{Item, command, leave, Frame, in_room}
 use Rattle.sf_core.specs.Machine.HasThroughout.{HasThroughout}
 use Rattle.sf_core.specs.Program.Formed.{IsFormed}
-use Rattle.sf_core.specs.Program.Init.{sets_up}
 use Rattle.sf_core.specs.Program.Syntax.{Procedure, Program}
-use Rattle.sf_part.specs.Of.{AreInOrder, FrameIsOf, FramesAreOf, HasEntered, IsAbove, IsVariable, inside, without}
+use Rattle.sf_part.specs.Of.{AreInOrder, FrameIsOf, FramesAreOf, IsAbove, IsVariable, inside, without}
 use Rattle.sf_part.proofs.Owned.{grows-cond}
 use Rattle.sf_part.proofs.Supplies.{one_if}
 use Rattle.sf_part.proofs.Unheld.{free-unheld, held-called, held-entered, held-takes, passed-not_taken}
@@ -108,7 +107,8 @@ module _ (p : Program) (formed : IsFormed p) (conditions : Conditions p) (r : Re
       → AllByRecursion (Spares p (GoneOf r)) below
   spare-below store f [] takes none zero above order of = tt
   spare-below store f (g ∷ below) takes none zero (inl calls) order of =
-      let also = held-takes p formed conditions r g.fixed.procedure f.fixed.procedure calls takes in (
+      let also = held-takes p formed conditions r g.fixed.procedure f.fixed.procedure calls takes
+      in (
         spares store g
             (held-called p formed conditions r g.fixed.procedure f.fixed.procedure calls takes)
             (λ n i e. passed-not_taken p formed conditions r i g.fixed.procedure

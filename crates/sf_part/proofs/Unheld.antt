@@ -2,7 +2,7 @@
 -- called, nobody has a variable of it.
 -- Names: `held-LAW` of the resources that a procedure holds, `free-LAW` of variables that are free,
 -- `passed-LAW` of those that are passed.
-use Rattle.std.specs.Prelude.{◌≡◌, ◌⊎◌, ℕ, List, ◌++◌, None, Some, Contains}
+use Rattle.std.specs.Prelude.{◌≡◌, ℕ, List, ◌++◌, None, Some, Contains}
 use Rattle.std.specs.List.{flat_map, slice_get}
 use Rattle.std.proofs.Common.{sym, refl, subst, inl, inr}
 use Rattle.std.proofs.lemmas.List.Elements.{Contains-append_cases, Contains-append_left}
@@ -13,8 +13,8 @@ use Rattle.sf_base.specs.declared.ids.ResId.{ResId}
 use Rattle.sf_base.specs.declared.ids.Var.{Var}
 use Rattle.sf_base.specs.declared.ids.Var.TheVariants.{Shared}
 use Rattle.sf_base.specs.declared.place.Place.{Place}
-use Rattle.sf_calls.specs.Around.{IsHeld, IsUnheld}
-use Rattle.sf_calls.specs.Breaks.{Breaks, BreaksAt, OccursAt}
+use Rattle.sf_calls.specs.Around.{IsHeld}
+use Rattle.sf_calls.specs.Breaks.{Breaks, OccursAt}
 use Rattle.sf_calls.specs.Checked.Lemmas.Broken.{first_broken}
 use Rattle.sf_calls.specs.Checked.Lemmas.Sites.{among_at}
 use Rattle.sf_calls.specs.Conditions.{Calls, Enters, Free, FreeIn, Takes}
@@ -22,13 +22,13 @@ use Rattle.sf_calls.specs.declared.breach.Breach.{Breach}
 use Rattle.sf_calls.specs.declared.breach.Breach.TheVariants.{NotHeld, Reentered}
 use Rattle.sf_calls.specs.FirstBreach.{Conditions}
 use Rattle.sf_calls.specs.Outside.{CallsIn, OccursOutside}
-use Rattle.sf_calls.specs.Reaches.{Reaches, directly, through}
+use Rattle.sf_calls.specs.Reaches.{directly, through}
 use Rattle.sf_core.specs.declared.command.Occurrence.{Occurrence}
 use Rattle.sf_core.specs.Machine.HasThroughout.{HasThroughout}
 use Rattle.sf_core.specs.Program.Formed.{IsFormed}
-use Rattle.sf_core.specs.Program.Heads.{Site, Somewhere, call_occurrences, expr_occurrences, head_calls, head_occurrences, head_regions, occurrences_at}
+use Rattle.sf_core.specs.Program.Heads.{call_occurrences, expr_occurrences, head_calls, head_occurrences, head_regions, occurrences_at}
 use Rattle.sf_core.specs.Program.Places.{place_of}
-use Rattle.sf_core.specs.Program.Syntax.{Block, Call, Command, with, Procedure, Program}
+use Rattle.sf_core.specs.Program.Syntax.{Call, Command, with, Procedure, Program}
 use Rattle.sf_part.specs.Of.{IsPassed, Passes}
 
 -- what occurs at a command occurs in it itself, or in one of its calls

@@ -13,3 +13,5 @@ pub mod Stepping
 pub mod Taking
 pub mod Sharing
 pub mod Giving
+pub mod Handing
+pub mod Setup

@@ -2,7 +2,7 @@
 -- program, they have called one another, it has the variables of its frames, and it holds the
 -- resources of the regions that it is inside of.
 -- O'Hearn (2007): what a task owns is enough for it to go on alone.
-use Rattle.std.specs.Prelude.{◌≡◌, ◌⊎◌, ◌+◌, ◌==◌, ◌&&◌, ltb, ◌<◌, ℕ, true, cond, List, [], ◌∷◌, ◌++◌, length, Some, None, Contains, is_some}
+use Rattle.std.specs.Prelude.{◌≡◌, ◌⊎◌, ◌+◌, ◌==◌, ◌&&◌, ltb, ◌<◌, ℕ, true, false, cond, List, [], ◌∷◌, ◌++◌, length, Some, None, Contains, is_some}
 use Rattle.std.specs.List.{slice_get}
 use Rattle.sf_base.specs.declared.ids.ResId.{ResId}
 use Rattle.sf_base.specs.declared.ids.Var.{Var}
@@ -71,23 +71,24 @@ Passes p x g f = Has p (λ h. Somewhere (λ s. Makes s.command
 abbrev pub IsPassed : Program → Var → ProcId → Type 0
 IsPassed p x = Reaches (λ f. (g : ProcId) × Passes p x g f) (λ f g. Calls p None g f)
 
--- a frame is inside of regions that its procedure's body has, and an own variable of it names one of a
--- resource only where a call has passed that one
+-- a frame is inside of regions that its procedure's body has, and an own variable of it names one
+-- of a resource only where a call has passed that one
 pub record HasEntered (p : Program) (f : Frame) : Type 0 where
   pub regions : (r : ResId) → Contains (inside f.todo) r → Enters p r f.fixed.procedure
   pub passed : (n : ℕ) (r : ResId) (i : ℕ) → f.fixed.slots (Own n) ≡ shared r i
       → IsPassed p (Shared r i) f.fixed.procedure
 
--- the frame's procedure holds no resource through its body, and no own variable of it names one of a
--- resource's
+-- the frame's procedure holds no resource through its body, and no own variable of it names one of
+-- a resource's
 pub record HasNothing (p : Program) (f : Frame) : Type 0 where
   pub holds : (r : ResId) → HasThroughout p f.fixed.procedure r → ⊥
   pub names : (n : ℕ) (r : ResId) (i : ℕ) → f.fixed.slots (Own n) ≡ shared r i → ⊥
 
--- the frame next below one of that procedure called it; or that procedure sets the resources up, and
--- below it is the entry's frame alone, which has nothing of them
+-- the frame next below one of that procedure called it; or that procedure sets the resources up,
+-- and below it is the entry's frame alone, which has nothing of them. It isn't that one which has
+-- none below
 abbrev pub IsAbove : Program → ProcId → List Frame → Type 0
-IsAbove p f [] = Unit {0}
+IsAbove p f [] = sets_up p f ≡ false
 IsAbove p f (g ∷ below) = Calls p None g.fixed.procedure f
     ⊎ ((sets_up p f ≡ true) × HasNothing p g × (below ≡ []))
 
@@ -103,8 +104,8 @@ times_left r [] = 0
 times_left r (command c ∷ todo) = times_left r todo
 times_left r (leave q ∷ todo) = cond (q.0 == r.0) 1 0 + times_left r todo
 
--- how often a task with these frames has the resource: by the regions that it is inside of, and once
--- in a frame that sets all of them up
+-- how often a task with these frames has the resource: by the regions that it is inside of, and
+-- once in a frame that sets all of them up
 abbrev pub times_held : Program → ResId → List Frame → ℕ
 times_held p r [] = 0
 times_held p r (f ∷ frames) =

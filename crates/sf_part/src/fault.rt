@@ -5,8 +5,8 @@ use std::alloc::AllocError;
 /// Why a part gives nothing up: the contents of a resource, or the shares of two children.
 #[derive(Clone, Copy, Debug, PartialEq, Eq)]
 pub enum PartFault {
-    /// An assertion that asks for cells has no footprint in what the part has, or in what is left of
-    /// it for that assertion.
+    /// An assertion that asks for cells has no footprint in what the part has, or in what is left
+    /// of it for that assertion.
     NoFootprint,
     /// Memory ran out.
     OutOfMemory,

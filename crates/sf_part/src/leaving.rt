@@ -31,10 +31,10 @@ use sf_precise::Arranged;
 use std::mem::replace;
 
 impl<'p> Part<'p> {
-    /// Leaves the region at whose exit the task stands, and gives up just what is its resource's: its
-    /// variables, and the cells that its invariant asks for, with the exit's stamp. `NoFootprint`
-    /// comes exactly where the invariant has no footprint in the part's cells. All room is taken
-    /// before anything moves: after an `Err` the part is as it was.
+    /// Leaves the region at whose exit the task stands, and gives up just what is its resource's:
+    /// its variables, and the cells that its invariant asks for, with the exit's stamp.
+    /// `NoFootprint` comes exactly where the invariant has no footprint in the part's cells. All
+    /// room is taken before anything moves: after an `Err` the part is as it was.
     pub fn give(&mut self, p: &Arranged) -> Result<Content, PartFault>
         requires of { IsPartOf (program_of p.now.program) self.old }
         requires exit { (r : R) × IsAtExit (part_of self.old).part r }

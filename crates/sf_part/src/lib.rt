@@ -5,7 +5,8 @@
 //! - `log`: the events it made, stamped by its clock.
 //! - `local` and `stepping`: the events that are its own affair, and what it answers for the others.
 //! - `content`, `guard`, `spots` and `entering`: the entry of a region with its resource's content.
-//! - `share` and `leaving`: the exit, which gives up just that. `fault`: why it may not.
+//! - `share` and `leaving`: the exit, which gives up just that; `setup`: the return that sets all
+//!   resources up, which gives up what each has. `fault`: why they may not.
 //! - `laws`: the law of parts.
 //! - `time`: clocks, stamps and logs.
 //! - `whole`: what a part tells of the whole.
@@ -22,6 +23,7 @@ mod leaving;
 mod local;
 mod log;
 mod part;
+mod setup;
 mod share;
 mod spots;
 mod stand;

@@ -25,8 +25,8 @@ use sf_precise::Arranged;
 use sf_precise::laws::order_keeps_meaning;
 use std::alloc::{AllocError, Global};
 
-/// What is to be given up: variables, with the values that they have, and cells, by their locations.
-/// Nothing has moved yet.
+/// What is to be given up: variables, with the values that they have, and cells, by their
+/// locations. Nothing has moved yet.
 #[derive(Drop)]
 pub(crate) struct Share {
     pub(crate) store: Store,
@@ -52,7 +52,7 @@ pub(crate) fn resource_share(p: &Arranged, shared: &Shared, r: ResId) -> Result<
 }
 
 /// A store of just the variables of a resource, with the values that they have.
-fn resource_store(p: &Program, shared: &Shared, r: ResId) -> Result<Store, AllocError>
+pub(crate) fn resource_store(p: &Program, shared: &Shared, r: ResId) -> Result<Store, AllocError>
     requires { (resource : Resource)
         × (slice_get (program_of p.now).resources r.0 ≡ Some resource) }
     ensures { IfOk result (λ store. IsOwnOf (program_of p.now) r (store_of shared.now.store)
@@ -64,7 +64,12 @@ fn resource_store(p: &Program, shared: &Shared, r: ResId) -> Result<Store, Alloc
 }
 
 /// The values of the variables of a resource, which are the only ones of that store.
-fn resource_vars(alloc: Global, p: &Program, store: &Store, r: ResId) -> Result<Vars, AllocError>
+pub(crate) fn resource_vars(
+    alloc: Global,
+    p: &Program,
+    store: &Store,
+    r: ResId,
+) -> Result<Vars, AllocError>
     requires there { (resource : Resource)
         × (slice_get (program_of p.now).resources r.0 ≡ Some resource) }
     requires own { (slot : Slot) → is_some (store_of store.now slot) ≡ true

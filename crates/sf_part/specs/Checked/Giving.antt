@@ -28,7 +28,8 @@ pub record IsGivenUp (number : ℕ) (r : ResId) (share : Share) (k : Content) (a
     pub stamp : k.stamp ≡ b.clock
     pub task : b.task ≡ a.task
     pub stand : stand_in b.stand ≡ running (moved (GoOn Past) (frames_in (stand_in a.stand)))
-    pub heap : Splits (common_of a.shared).heap (common_of b.shared).heap (content_of k).content.heap
+    pub heap : Splits (common_of a.shared).heap (common_of b.shared).heap
+        (content_of k).content.heap
     pub store : Splits (common_of a.shared).store (common_of b.shared).store
         (content_of k).content.store
     pub held : (common_of b.shared).held

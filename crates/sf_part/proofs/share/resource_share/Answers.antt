@@ -1,8 +1,7 @@
-use Rattle.std.proofs.Common.{ap, ◌∙◌, ◌≡◌, slice_get, subst, sym}
+use Rattle.std.proofs.Common.{◌∙◌, ◌≡◌, slice_get, subst, sym}
 use Rattle.sf_base.proofs.MapSplits.{map-same}
 use Rattle.sf_base.proofs.Options.{some-holds}
-use Rattle.sf_base.specs.HeapStore.{Slot, Store}
-use Rattle.sf_base.specs.declared.value.Value.{Value}
+use Rattle.sf_base.specs.HeapStore.{Store}
 use Rattle.sf_core.specs.Program.ProgramView.{program_of}
 use Rattle.sf_core.specs.Program.Syntax.{Resource}
 use Rattle.sf_core.specs.Program.View.{assertion_of}
