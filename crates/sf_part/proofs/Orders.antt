@@ -1,5 +1,4 @@
--- The frames of a part have called one another, and entered what they are inside of: an event keeps
--- that.
+-- The frames of a part have called one another, and entered what they are inside of.
 -- Names: `order-LAW`.
 use Rattle.std.specs.Prelude.{◌≡◌, ◌++◌, ℕ, zero, suc, List, [], ◌∷◌, None, Contains}
 use Rattle.std.proofs.Common.{sym, ap, ◌∙◌, refl, subst, inl, inr}

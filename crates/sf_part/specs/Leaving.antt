@@ -1,4 +1,4 @@
--- Leaving: that a task stands at an exit, or where the resources are set up, and has nothing to leave.
+-- Leaving: that a task is at an exit or sets the resources up, and that it has nothing to leave.
 -- Hoare, "Towards a Theory of Parallel Programming" (1972); O'Hearn (2007) for what crosses.
 use Rattle.std.specs.Prelude.{◌≡◌, List, length}
 use Rattle.std.specs.List.{AllByRecursion}

@@ -1,5 +1,4 @@
--- What is given up of all resources, one after the other: what is found of each, and what it
--- leaves.
+-- What is given up of all resources, one after the other: what is found of each, and what is left.
 -- Ordinary: footprints in a whole heap that are disjoint, and unions of maps.
 use Rattle.std.specs.Prelude.{◌≡◌, ◌+◌, ◌<◌, ◌≤◌, ℕ, true, List, [], ◌∷◌, ◌++◌, length, map, None, Some, reverse, is_some, nat_eq}
 use Rattle.std.specs.FinMap.{get}
