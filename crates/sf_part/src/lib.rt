@@ -2,7 +2,7 @@
 //! belongs to.
 //!
 //! - `part`: what a task has, owned; `stand` and `supply`: where it stands, and its units.
-//! - `log`: the events it made, stamped by its clock.
+//! - `log` and `clock`: the events it made, stamped by its clock.
 //! - `local` and `stepping`: the events that are its own affair, and what it answers for the others.
 //! - `content`, `guard`, `spots` and `entering`: the entry of a region with its resource's content.
 //! - `laws`: the law of parts.
@@ -11,6 +11,7 @@
 //! - `examples`: one event of each kind, and what there isn't.
 #![tactic(auto)]
 
+mod clock;
 mod content;
 mod entering;
 pub mod examples;
