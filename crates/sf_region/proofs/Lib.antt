@@ -9,3 +9,5 @@ pub mod Waits
 pub mod Seeing
 pub mod Asks
 pub mod Ends
+pub mod Closing
+pub mod Draining

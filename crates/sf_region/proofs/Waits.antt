@@ -178,7 +178,7 @@ module _ (p : Rattle.sf_core.specs.Program.Syntax.Program) where
       let h = advance-clock a c (x ∷ marks) adv in absurd (omega arith)
 
 -- Two live views are of two tasks
-has-flat : {A B : Type 0} (f : A → List B) (l : List A) (x : A) (y : B) → Contains l x
+pub has-flat : {A B : Type 0} (f : A → List B) (l : List A) (x : A) (y : B) → Contains l x
     → Contains (f x) y → Contains (flat_map f l) y
 has-flat f [] x y h i = absurd (has-none x h)
 has-flat {A} {B} f (z ∷ l) x y h i = ⊎_elim

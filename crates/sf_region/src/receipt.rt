@@ -68,8 +68,21 @@ impl<'p> Misses<'p> {
 }
 
 /// A receipt that a table was closed with its first task ended. The call that closes a table makes
-/// it, and nothing else does.
+/// it, and nothing else does. Contracts see with what the table began.
 #[derive(Drop)]
 pub struct Closed<'p> {
     pub(crate) note: Seat<Option<Content>, View<'p>>,
+}
+
+impl<'p> Model for Closed<'p> {
+    ghost use Rattle.std.specs.Coded.{codes};
+    ghost use denote.Signature.{static_lft};
+    ghost use Rattle.sf_region.specs.contracts.views.Begun as begun;
+    ghost use Rattle.sf_region.specs.declared.views.Begun.{Begun};
+
+    ghost Value = { Begun };
+
+    ghost coded = { Prim.hlevel (codes, (begun.the_row static_lft).coded) };
+
+    ghost view = { λ c. c.note.me.0.begun };
 }

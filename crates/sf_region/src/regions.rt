@@ -1,19 +1,21 @@
 //! The table of a program's resources, and the seats at it.
 
-ghost use Rattle.std.specs.Prelude.{◌≡◌, ◌<◌, ◌==◌, cond, suc, IfOk, IfSome, IsSome, length, map, replicate, Some, true};
+ghost use Rattle.std.specs.Mem.Slots.{IsFull, slots_items, slots_len};
+ghost use Rattle.std.specs.Prelude.{◌≡◌, ◌<◌, ◌≤◌, ◌==◌, cond, suc, IfOk, IfSome, IsSome, length, List, [], ◌∷◌, ◌++◌, map, replicate, Some, true, vec_capacity};
 ghost use Rattle.sf_part.specs.PartView.{part_of};
-ghost use Rattle.sf_region.specs.Calls.{MayLeave, MayTry, Tells};
+ghost use Rattle.sf_part.specs.declared.content.Content.{Content as K};
+ghost use Rattle.sf_region.specs.Calls.{MayClose, MayLeave, MayTry, Tells};
 ghost use Rattle.sf_region.specs.declared.entry.Entry.TheVariants.{Entered};
 ghost use Rattle.sf_region.specs.Keys.{begun_of, begun_with};
-ghost use Rattle.sf_region.specs.Plays.{IsThere, bump, left};
+ghost use Rattle.sf_region.specs.Plays.{Finished, IsThere, bump, left};
 ghost use Rattle.sf_region.specs.Rule.{MayBegin, opening_view};
 ghost use Rattle.sf_region.specs.Waits.{program_in};
 
 use crate::entry::Entry;
-use crate::receipt::Misses;
-use crate::steps::{Key, Ruled, bury_word, leave_word, try_word};
+use crate::receipt::{Closed, Misses};
+use crate::steps::{Key, Ruled, bury_word, leave_word, note_word, try_word};
 use crate::views::View;
-use atomic_table::{Seat, Table};
+use atomic_table::{Closed as Emptied, Seat, Table};
 use sf_base::{ResId, TaskPath};
 use sf_part::{Content, Part};
 use sf_precise::Arranged;
@@ -26,6 +28,9 @@ use std::snapshot::Snapshot;
 #[derive(Drop)]
 pub struct Regions<'p> {
     table: Table<Option<Content>, View<'p>, Key<'p>, Ruled, Global>,
+    /// Room for the contents of a closed table.
+    home: Vec<Content>,
+    ghost room: { (home.items ≡ []) × (table.shared.table_id.slots ≤ vec_capacity home) },
     ghost wide: { table.shared.table_id.words ≡ suc table.shared.table_id.slots },
     ghost each: { table.shared.table_id.slots ≡ length (program_in (begun_of table.shared.key)).resources },
 }
@@ -116,6 +121,38 @@ fn filled(alloc: Global, contents: Vec<Content>) -> Result<Vec<Option<Content>>,
     Ok(slots)
 }
 
+/// Puts a content at the end of a list that has room for it.
+fn put(home: &mut Vec<Content>, content: Content)
+    requires { length home.old.items < vec_capacity home.old }
+    ensures items { home.new.items ≡ home.old.items ++ content ∷ [] }
+    ensures room { vec_capacity home.old ≤ vec_capacity home.new }
+{
+    if home.push(content).is_err() {
+        unreachable!();
+    }
+}
+
+/// The contents of a closed table, in their order, in a list that has room for them.
+fn drained(closed: Emptied<Option<Content>, Global>, home: Vec<Content>) -> Vec<Content>
+    requires full { IsFull closed.slots }
+    requires contents { (cs : List K) × (slots_items closed.slots ≡ map Some cs) }
+    requires room { (home.items ≡ []) × (slots_len closed.slots ≤ vec_capacity home) }
+    ensures { slots_items closed.slots ≡ map Some result.items }
+{
+    let mut rest = closed;
+    let mut contents = home;
+    let mut i = 0;
+    while i < rest.slot_count() {
+        match rest.take(i) {
+            Some(content) => put(&mut contents, content),
+            None => unreachable!(),
+        }
+        i += 1;
+    }
+    rest.free();
+    contents
+}
+
 /// The entry with the content that was found.
 fn entry_with(found: Option<Content>) -> Entry
     requires { IsSome found }
@@ -146,11 +183,13 @@ impl<'p> Regions<'p> {
             contents: Snapshot::of(&contents),
         };
         let task = part.task();
+        let mut home = Vec::new(alloc);
+        home.reserve(contents.len())?;
         let words = zero_words(alloc, contents.len() + 1)?;
         let slots = filled(alloc, contents)?;
         match Table::new(alloc, words.as_slice(), slots, &key) {
             Ok((table, seat)) => Ok((
-                Regions { table },
+                Regions { table, home },
                 RegionSeat {
                     seat,
                     task,
@@ -222,5 +261,20 @@ impl<'p> Regions<'p> {
             resource: seat.missed,
             count: seat.misses,
         }
+    }
+
+    /// Closes the table, where the task with which it began has ended: then it is the only one. All
+    /// contents are at home, and come back in file order. No memory is taken.
+    pub fn close(self, seat: RegionSeat<'p>, part: &Part<'p>) -> (Vec<Content>, Closed<'p>)
+        requires table { seat.0 ≡ self.0 }
+        requires may { MayClose (program_in self.1) seat.1 part.now }
+        ensures finished { Finished seat.entry.1.begun (part_of part.now) result.0.items }
+        ensures receipt { result.1 ≡ seat.entry.1.begun }
+    {
+        let Regions { table, home } = self;
+        let RegionSeat { seat: mut own, .. } = seat;
+        note_word::<Brand>(&table.shared, &mut own, part);
+        let note = bury_word::<Brand>(&table.shared, &own);
+        (drained(table.close_with(own), home), Closed { note })
     }
 }

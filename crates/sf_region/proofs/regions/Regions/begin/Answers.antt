@@ -23,7 +23,7 @@ new-requires c =
     let same : about
     ≡ begun_with c.of.result.value c.of-2.result.value c.of-3.result.value.items =
     λ i. begun_with (sym c.of.ensures i) (sym c.of-2.ensures i) (sym c.of-3.ensures i).items in
-    let count : c.len.result ≡ length c.args.contents.items = search rules in
+    let count : c.len-2.result ≡ length c.args.contents.items = search rules in
     let made : ws ≡ replicate (suc (length c.args.contents.items)) 0 =
     c.as_slice.ensures.value ∙ (c.in_ok-words.ensures ∙ ap (λ (n : ℕ). replicate n 0)
     (ap (λ (n : ℕ). n + 1) count ∙ add-one (length c.args.contents.items))) in
