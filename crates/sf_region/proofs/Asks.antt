@@ -1,16 +1,15 @@
 -- What each step on a word asks: that the rule holds after it, and what its caller is told.
 -- Names: `KIND-at` of that kind of step.
-use Rattle.std.specs.Prelude.{◌≡◌, ◌≢◌, ◌+◌, ◌<◌, ◌≤◌, ℕ, zero, suc, max, Bool, true, false, List, [], ◌∷◌, ◌++◌, map, length, slice_index, Option, Some, None, Contains}
-use Rattle.std.specs.List.{sum_by}
-use Rattle.std.proofs.Common.{set, sym, ap, ◌∙◌, refl, subst, inl, inr, ⊎_elim, arith, true≢false, set-set, eq-eqb, ne_eqb, eqb}
+use Rattle.std.specs.Prelude.{◌≡◌, ◌+◌, ◌<◌, ◌≤◌, ℕ, zero, suc, max, Bool, true, false, List, [], ◌∷◌, ◌++◌, map, length, slice_index, Some}
+use Rattle.std.proofs.Common.{set, sym, ap, ◌∙◌, refl, subst, ⊎_elim, arith, true≢false, set-set, eq-eqb, ne_eqb, eqb}
 use Rattle.std.proofs.lemmas.Option.{none-some, same_Some}
 use mathlib.Core.Logic.{dite}
 use mathlib.Core.Option.{none, some, some-injective, some-ne-none}
 use native.Mathlib.Decide.{ℕ_discrete}
 use lib.ListN.{get_elem?}
 use prog.Atomic.{either}
-use Rattle.atomic_table.proofs.Lists.{at_snoc, set_again, set_here}
-use Rattle.atomic_table.specs.Table.{State, Me, Step, takes, keeps, gives, step, Allows, Enters, put_back, opening, rest}
+use Rattle.atomic_table.proofs.Lists.{at_snoc, set_here}
+use Rattle.atomic_table.specs.Table.{State, Me, takes, keeps, gives, step, Allows, Enters, put_back, opening}
 use Rattle.sf_base.specs.declared.ids.ResId.{ResId}
 use Rattle.sf_base.specs.declared.limits.TheConstants.{STEPS}
 use Rattle.sf_core.specs.Machine.Config.{Config}
@@ -25,18 +24,17 @@ use Rattle.sf_part.specs.Entry.{AreApart}
 use Rattle.sf_part.specs.Guards.{IsAtRegion}
 use Rattle.sf_part.specs.PartView.{part_of}
 use Rattle.sf_part.specs.Timed.{TimedPart}
-use Rattle.sf_region.proofs.Events.{Told}
 use Rattle.sf_region.proofs.Keeps.{admits, begins, frees, freed_state, parts-at, settles, taken_state, viewed, wins}
 use Rattle.sf_region.proofs.Lists.{cut, has-middle, in_range, present-append, sum-focus}
-use Rattle.sf_region.proofs.Waits.{Hands, NotTrue, ReadsThere, advance-task, advance-tasks, all-hands, all-wait, each-set, empty-hand, false-missed, focused, knows, left-waits, lost-waits, moved-waits, no-event, places-none, taken-missed, won-waits}
+use Rattle.sf_region.proofs.Waits.{Hands, NotTrue, ReadsThere, advance-tasks, all-hands, all-wait, empty-hand, false-missed, focused, knows, left-waits, lost-waits, moved-waits, no-event, places-none, taken-missed, won-waits}
 use Rattle.sf_region.specs.declared.views.Begun.{Begun}
 use Rattle.sf_region.specs.declared.views.View.{View}
 use Rattle.sf_region.proofs.Seeing.{reads-false, reads-there}
-use Rattle.sf_region.specs.Calls.{IsNear, MayLeave}
+use Rattle.sf_region.specs.Calls.{IsNear}
 use Rattle.sf_region.specs.Checked.PutBack.{IsPutBack}
-use Rattle.sf_region.specs.Holdings.{Holding, group, Advance}
+use Rattle.sf_region.specs.Holdings.{Holding, Advance}
 use Rattle.sf_region.specs.Marks.{Mark, Arrives, History}
-use Rattle.sf_region.specs.Plays.{aimed, seen, Known, IsFor, IsThere, IsThereWith, Lives, buries, dead, giving, leaves, left, lost, moved, notes, tries, won}
+use Rattle.sf_region.specs.Plays.{aimed, seen, Known, IsFor, Lives, buries, dead, giving, leaves, left, lost, moved, notes, tries, won}
 use Rattle.sf_region.specs.Rule.{Slot, holding, untimed, parts_in, present, Rule, Waits, Law, MayBegin, opening_view}
 use Rattle.sf_region.specs.Stamps.{Stamps, units_of}
 use Rattle.sf_region.specs.Waits.{BeganAt, first_of, opening_parts, program_in}
@@ -129,9 +127,10 @@ tries-word b slots id me a r more less live stands idle adv s law wide at small 
     let at-k : IsAtRegion (part_of a).part k.resource =
     subst (λ z. IsAtRegion (part_of a).part z) (sym is) stands in
     let hands : Hands w = λ l y e.
-    let same : k ≡ y = same_Some k y e in
-    (subst (λ (z : Content). IsAtRegion (part_of a).part z.resource) same at-k,
-    ap (λ (z : Content). z.resource) same) in
+    let same : k ≡ y = same_Some k y e in (
+      subst (λ (z : Content). IsAtRegion (part_of a).part z.resource) same at-k,
+      ap (λ (z : Content). z.resource) same,
+    ) in
     let lawful : Law b now = record {
       marks = ms;
       rule = subst (λ (st : State Slot View). Rule b ms st) (λ i. record {
@@ -153,20 +152,22 @@ tries-word b slots id me a r more less live stands idle adv s law wide at small 
       λ p e.
           let same : r ≡ p = λ i. record {
             0 = (let z : r.0 ≡ p.0 = (omega arith) in z) i;
-          } in
-          ((λ _. (
-            k,
-            ap (λ (z : ResId). (w, (z.0, Some k) ∷ me.1)) same,
-            subst (λ (z : ResId). IsFor v.begun (part_of a) z k) same record {
-              resource = is;
-              exactly = subst (λ (z : Begun).
-                  Rattle.sf_region.specs.Rule.IsExactly (program_in z) r.0 k) (sym (law.rule.each id v at live).begun) exact;
-              apart = apart-from b ms (viewed s id mv) q id mv here live r.0 k f.2;
-              room = room-for b ms (viewed s id mv) q id mv here live r.0 k f.2;
-              there = (q.contents, there, ap (get_elem? q.contents) exact.number ∙ f.2);
-            },
-            known,
-          )), (λ no. absurd (no hit))),
+          } in (
+            (λ _. (
+              k,
+              ap (λ (z : ResId). (w, (z.0, Some k) ∷ me.1)) same,
+              subst (λ (z : ResId). IsFor v.begun (part_of a) z k) same record {
+                resource = is;
+                exactly = subst (λ (z : Begun).
+                    Rattle.sf_region.specs.Rule.IsExactly (program_in z) r.0 k) (sym (law.rule.each id v at live).begun) exact;
+                apart = apart-from b ms (viewed s id mv) q id mv here live r.0 k f.2;
+                room = room-for b ms (viewed s id mv) q id mv here live r.0 k f.2;
+                there = (q.contents, there, ap (get_elem? q.contents) exact.number ∙ f.2);
+              },
+              known,
+            )),
+            (λ no. absurd (no hit)),
+          ),
     ))
     (λ miss.
     let w : View = lost r mv in
@@ -202,12 +203,14 @@ tries-word b slots id me a r more less live stands idle adv s law wide at small 
       λ p e.
           let same : r ≡ p = λ i. record {
             0 = (let z : r.0 ≡ p.0 = (omega arith) in z) i;
-          } in
-          ((λ hit. absurd (miss hit)), (λ _. (
-            ap (λ (z : ResId). (lost z mv, me.1)) same,
-            (q.contents, lives b ms (viewed s id mv) q id mv here live),
-            subst (λ (z : ResId). Known (lost z mv)) same known,
-          ))),
+          } in (
+            (λ hit. absurd (miss hit)),
+            (λ _. (
+              ap (λ (z : ResId). (lost z mv, me.1)) same,
+              (q.contents, lives b ms (viewed s id mv) q id mv here live),
+              subst (λ (z : ResId). Known (lost z mv)) same known,
+            )),
+          ),
     ))
 
 -- a content was put back, and its word is freed
@@ -246,9 +249,10 @@ leaves-word b slots id me a k rs more live deep adv refused s law wide at small 
     subst (λ (z : TimedPart). IsAtRegion z.part k.resource)
     (ap (λ (z : Holding). z.part) (sym still)) stood.0 in
     let hands-mv : Hands mv = λ l y e.
-    let f : k ≡ y = same_Some k y e in
-    (subst (λ (z : Content). IsAtRegion (part_of a).part z.resource) f stands,
-    stood.1 ∙ ap (λ (z : Content). z.resource) f) in (
+    let f : k ≡ y = same_Some k y e in (
+      subst (λ (z : Content). IsAtRegion (part_of a).part z.resource) f stands,
+      stood.1 ∙ ap (λ (z : Content). z.resource) f,
+    ) in (
       stood.1,
       stands,
       false-missed b ms (viewed s id mv) q

@@ -1,23 +1,20 @@
 -- The end: where the task with which the table began has ended, it is alone, and all contents are at
 -- home.
 -- Names: `closing-LAW`.
-use Rattle.std.specs.Prelude.{◌≡◌, ◌≢◌, ◌+◌, ◌<◌, ◌≤◌, ℕ, zero, suc, cond, Bool, true, false, List, [], ◌∷◌, ◌++◌, map, length, slice_index, Option, Some, None, Contains, flat_map}
+use Rattle.std.specs.Prelude.{◌≡◌, ◌≢◌, ◌<◌, ℕ, suc, cond, Bool, true, false, List, [], ◌∷◌, ◌++◌, map, length, slice_index, Option, Some, None, Contains}
 use Rattle.std.specs.Option.{option_map}
 use Rattle.std.proofs.Common.{sym, ap, ◌∙◌, refl, subst, inl, inr, ⊎_elim, arith, true≢false}
-use Rattle.std.proofs.lemmas.List.{map-append}
 use Rattle.std.proofs.lemmas.List.Elements.{Contains-append_cases, Contains-append_right}
 use Rattle.std.proofs.lemmas.Grind.{flat_map-append}
-use Rattle.std.proofs.lemmas.Option.{none-some, same_Some}
+use Rattle.std.proofs.lemmas.Option.{none-some}
 use mathlib.Core.Logic.{dite}
-use mathlib.Core.Option.{some, some-injective, some-ne-none}
+use mathlib.Core.Option.{some, some-injective}
 use native.Mathlib.Decide.{ℕ_discrete}
 use lib.ListN.{get_elem?}
-use Rattle.atomic_table.proofs.Lists.{at_map}
 use Rattle.atomic_table.specs.Table.{State, Final, Seen}
-use Rattle.sf_base.proofs.MapSplits.{splits-has_left}
-use Rattle.sf_core.specs.Machine.Config.{Frame, Task, runs, Path, Config, task_at}
+use Rattle.sf_core.specs.Machine.Config.{Frame, runs, Path, Config}
 use Rattle.sf_core.specs.Machine.Enabled.{HasEnded}
-use Rattle.sf_core.specs.Machine.Whole.{Part as WholePart, Content as WholeContent, Stand, running, stand_of, stands, own_stand, same_path, Whole}
+use Rattle.sf_core.specs.Machine.Whole.{Part as WholePart, Content as WholeContent, running, stand_of, stands, own_stand, same_path, Whole}
 use Rattle.sf_part.proofs.Order.{whole-focus}
 use Rattle.sf_part.proofs.Seen.{running_entries_are_alone}
 use Rattle.sf_part.specs.Checked.LawsOfWhole.{RunningEntriesAreAlone}
@@ -30,7 +27,7 @@ use Rattle.sf_region.proofs.Waits.{focused, has-flat}
 use Rattle.sf_region.specs.declared.views.Begun.{Begun}
 use Rattle.sf_region.specs.declared.views.View.{View}
 use Rattle.sf_region.specs.Holdings.{inside_of, entered, taken, with_hand}
-use Rattle.sf_region.specs.Marks.{Mark, History}
+use Rattle.sf_region.specs.Marks.{History}
 use Rattle.sf_region.specs.Plays.{Finished}
 use Rattle.sf_region.specs.Rule.{Slot, holding, group_of, parts_in, untimed, present, Rule, Law}
 use Rattle.sf_region.specs.Stamps.{Stamps}
@@ -60,7 +57,7 @@ first-entry a contents c w = go (same_path [] a.task) refl
         let (others, s, none) = w.tasks in
         let left : own_stand a [] ≡ None = ap (λ z. cond z (Some a.stand) None) e in
         let whole : stands c.tasks [] ≡ None =
-            s.is [] ∙ ((λ i. Rattle.std.specs.Option.option_or (left i) (none.none [] i))) in
+        s.is [] ∙ ((λ i. Rattle.std.specs.Option.option_or (left i) (none.none [] i))) in
         absurd (none-some (stand_of c.tasks) (sym whole))
 
 nil-first : {A B : Type 0} (f : A → B) (xs : List A) (ys : List B) → map f xs ++ ys ≡ [] → xs ≡ []

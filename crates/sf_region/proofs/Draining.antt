@@ -1,7 +1,7 @@
 -- Contents taken out of slots, one after the other.
 -- Names: `drain-LAW`.
 use Rattle.std.specs.Prelude.{◌≡◌, ◌+◌, ◌≤◌, ℕ, zero, suc, List, [], ◌∷◌, ◌++◌, map, take, length, Option, Some, None}
-use Rattle.std.proofs.Common.{sym, ap, ◌∙◌, refl, subst, arith, add-one}
+use Rattle.std.proofs.Common.{sym, ap, ◌∙◌, refl, arith, add-one}
 use Rattle.std.proofs.lemmas.List.{map-append, take_all}
 use Rattle.std.proofs.lemmas.Option.{none-some, same_Some}
 use mathlib.Core.Option.{some, some-injective, some-ne-none}

@@ -1,6 +1,6 @@
 -- From what a step tells to what a call says.
 -- Names: `try-LAW` of a try, `leave-LAW` of a content put back, `taken-LAW` of what a seat has taken.
-use Rattle.std.specs.Prelude.{◌≡◌, ◌≢◌, ◌==◌, ◌+◌, ℕ, suc, cond, true, List, [], ◌∷◌, Option, Some, None, IfSome, IsSome}
+use Rattle.std.specs.Prelude.{◌≡◌, ◌≢◌, ◌==◌, ◌+◌, ℕ, cond, true, List, [], ◌∷◌, Some, None, IfSome, IsSome}
 use Rattle.std.proofs.Common.{sym, ap, ◌∙◌, refl, subst, arith}
 use mathlib.Core.Option.{none}
 use Rattle.atomic_table.specs.Seated.{TableId}
@@ -13,12 +13,12 @@ use Rattle.sf_part.specs.Contents.{content_of}
 use Rattle.sf_part.specs.PartView.{part_of}
 use Rattle.sf_region.proofs.Insides.{private-inside, entry-inside, exit-inside}
 use Rattle.sf_region.specs.declared.entry.Entry.{Entry}
-use Rattle.sf_region.specs.declared.entry.Entry.TheVariants.{Entered, Held}
+use Rattle.sf_region.specs.declared.entry.Entry.TheVariants.{Entered}
 use Rattle.sf_region.specs.declared.views.View.{View}
 use Rattle.sf_region.specs.Calls.{IsNear, MayLeave, Tells}
 use Rattle.sf_region.specs.Holdings.{Holding, taken, with_hand, entered, Does, Act, Advance}
 use Rattle.sf_region.specs.Marks.{Kind, private, entry, exit, forking, joining, Mark}
-use Rattle.sf_region.specs.Plays.{IsFor, IsThere, Known, giving, hollow, left, lost, moved, tries, won}
+use Rattle.sf_region.specs.Plays.{IsFor, IsThere, Known, giving, hollow, lost, moved, tries, won}
 use Rattle.sf_region.specs.Rule.{Slot, holding}
 
 -- what a seat has taken stays

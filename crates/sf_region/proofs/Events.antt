@@ -1,6 +1,6 @@
 -- One event of a seat's task, and what it leaves of the history, the stamps and the contents.
 -- Names: `act-LAW` of one event, `advance-LAW` of several, `KIND-LAW` of one kind.
-use Rattle.std.specs.Prelude.{◌≡◌, ◌≢◌, ◌⊎◌, ◌+◌, ◌<◌, ◌≤◌, ℕ, suc, max, cond, Bool, true, false, List, [], ◌∷◌, ◌++◌, map, length, Option, Some, None, Contains}
+use Rattle.std.specs.Prelude.{◌≡◌, ◌≢◌, ◌⊎◌, ◌+◌, ◌<◌, ◌≤◌, ℕ, suc, cond, Bool, true, List, [], ◌∷◌, ◌++◌, map, length, Option, Some, None, Contains}
 use Rattle.std.specs.List.{sum_by, AllByRecursion}
 use Rattle.std.proofs.Common.{set, sym, ap, ◌∙◌, refl, subst, inl, inr, ⊎_elim, arith, append_assoc, append-nil}
 use Rattle.std.proofs.lemmas.List.{map-append}
@@ -8,16 +8,16 @@ use Rattle.std.proofs.lemmas.List.Elements.{Contains-push_cases}
 use Rattle.std.proofs.lemmas.List.Sums.{sum_by-append, sum_by-cons}
 use Rattle.std.proofs.lemmas.Option.{none-some, same_Some}
 use mathlib.Core.Logic.{dite}
-use mathlib.Core.Option.{some, some-injective, some-ne-none}
+use mathlib.Core.Option.{some, some-injective}
 use native.Mathlib.Decide.{ℕ_discrete}
 use lib.ListN.{get_elem?}
 use Rattle.atomic_table.proofs.Lists.{set_here, set_else}
 use Rattle.sf_base.proofs.MapSplits.{splits-lacks_right}
 use Rattle.sf_base.specs.declared.ids.ResId.{ResId}
-use Rattle.sf_core.specs.Machine.Config.{Frame, runs, Path, Config}
+use Rattle.sf_core.specs.Machine.Config.{Frame, runs, Config}
 use Rattle.sf_core.specs.Machine.Next.{next}
-use Rattle.sf_core.specs.Machine.Step.{Event, Step}
-use Rattle.sf_core.specs.Machine.Whole.{Part as WholePart, Content as WholeContent, Whole, holders, numbers, running, stand_of}
+use Rattle.sf_core.specs.Machine.Step.{Step}
+use Rattle.sf_core.specs.Machine.Whole.{Part as WholePart, Content as WholeContent, Whole, holders, numbers, running}
 use Rattle.sf_core.specs.Program.Syntax.{Program}
 use Rattle.sf_part.proofs.Beside.{takes-one}
 use Rattle.sf_part.proofs.Order.{whole-focus}
@@ -28,16 +28,16 @@ use Rattle.sf_part.specs.declared.content.Content.{Content}
 use Rattle.sf_part.specs.Contents.{content_of}
 use Rattle.sf_part.specs.Given.{Gives}
 use Rattle.sf_part.specs.Steps.{Private, Enters, Exits}
-use Rattle.sf_part.specs.Timed.{Stamped, TimedPart, Notes, noted}
+use Rattle.sf_part.specs.Timed.{Stamped, TimedPart, noted}
 use Rattle.sf_region.proofs.Insides.{private-inside, entry-inside, exit-inside, private-tidy, entry-tidy, exit-tidy}
 use Rattle.sf_region.proofs.Lists.{Cut, cut, in_range, has-cases, has-first, has-later, has-middle, has-none, has-unfocus, present-with, present-without}
 use Rattle.sf_region.proofs.Runs.{history-more, task-from, task-apart, task-childless, union-has}
 use Rattle.sf_region.proofs.Single.{single-more}
 use Rattle.sf_region.specs.declared.views.Begun.{Begun}
-use Rattle.sf_region.specs.Holdings.{Holding, group, taken, with_hand, entered, Does, Act, Advance}
+use Rattle.sf_region.specs.Holdings.{Holding, taken, with_hand, entered, Does, Act, Advance}
 use Rattle.sf_region.specs.Marks.{Kind, private, entry, exit, forking, joining, Mark, IsKind, History}
 use Rattle.sf_region.specs.Rule.{IsExactly, IsTidy, untimed, present}
-use Rattle.sf_region.specs.Stamps.{Touches, IsChild, entry_of, units_of, Stamps}
+use Rattle.sf_region.specs.Stamps.{Touches, IsChild, entry_of, Stamps}
 use Rattle.sf_region.specs.Waits.{BeganAt, first_of, opening_parts, program_in}
 
 -- what the rule says of parts and contents
@@ -138,9 +138,9 @@ module _ (b : Begun) (marks : List Mark) (m : Mark) (before more : List TimedPar
   not-both r q h e own =
       let (w, s, u) = whole-first.held in
       let there = union-has holders others w q.part r q.part.task u (others-has q h)
-          (ap (λ z. cond z (Some q.part.task) None) e) in
+      (ap (λ z. cond z (Some q.part.task) None) e) in
       let gone : w r ≡ None = splits-lacks_right r x.part.task s
-          (ap (λ z. cond z (Some x.part.task) None) own) in
+      (ap (λ z. cond z (Some x.part.task) None) own) in
       none-some q.part.task (sym gone ∙ there)
 
   -- what a content is of, nobody holds
@@ -149,13 +149,13 @@ module _ (b : Begun) (marks : List Mark) (m : Mark) (before more : List TimedPar
   not-held k i e q h own =
       let c = cut contents i (Some k) e in
       let free : here.common.held k.resource ≡ None = all-middle
-          (λ z. here.common.held z.resource ≡ None) (present c.before) (content_of k).content
-          (present c.after) (subst (AllByRecursion (λ z. here.common.held z.resource ≡ None))
-          (ap present c.is ∙ Rattle.sf_region.proofs.Lists.present-append c.before
-          (Some k ∷ c.after)) whole-first.free) in
+      (λ z. here.common.held z.resource ≡ None) (present c.before) (content_of k).content
+      (present c.after) (subst (AllByRecursion (λ z. here.common.held z.resource ≡ None))
+      (ap present c.is ∙ Rattle.sf_region.proofs.Lists.present-append c.before
+      (Some k ∷ c.after)) whole-first.free) in
       let there = union-has holders (x.part ∷ others) here.common.held q.part k.resource
-          q.part.task whole-first.held (has-later x.part q.part others (others-has q h))
-          (ap (λ z. cond z (Some q.part.task) None) own) in
+      q.part.task whole-first.held (has-later x.part q.part others (others-has q h))
+      (ap (λ z. cond z (Some q.part.task) None) own) in
       none-some q.part.task (sym free ∙ there)
 
   -- one event more, by the law of parts

@@ -1,23 +1,20 @@
 -- The regions that a task is inside of, event by event.
 -- Names: `inside-LAW` of what is still to be done, `KIND-inside` of an event of that kind,
 -- `KIND-holds` of what a part holds after it.
-use Rattle.std.specs.Prelude.{◌≡◌, ◌≢◌, ◌⊎◌, ◌==◌, ◌+◌, ◌≤◌, ◌<◌, ℕ, suc, zero, cond, Bool, true, false, List, [], ◌∷◌, ◌++◌, map, Option, Some, None, flat_map}
-use Rattle.std.specs.List.{count_by}
-use Rattle.std.proofs.Common.{sym, ap, ◌∙◌, refl, subst, inl, inr, ⊎_elim, arith, true≢false, eq-eqb, ne_eqb}
+use Rattle.std.specs.Prelude.{◌≡◌, ◌≢◌, ◌⊎◌, ◌==◌, ◌+◌, ℕ, cond, Bool, true, false, List, [], ◌∷◌, ◌++◌, map, Option, Some, None}
+use Rattle.std.proofs.Common.{sym, ap, ◌∙◌, refl, subst, inl, inr, arith, true≢false, eq-eqb, ne_eqb}
 use Rattle.std.proofs.lemmas.List.Sums.{sum_by-cons}
-use Rattle.std.proofs.lemmas.Option.{none-some, same_Some}
+use Rattle.std.proofs.lemmas.Option.{none-some}
 use mathlib.Core.Logic.{dite}
 use native.Mathlib.Decide.{ℕ_discrete}
 use Rattle.sf_base.specs.declared.ids.ResId.{ResId}
 use Rattle.sf_core.specs.Machine.Config.{Item, command, leave, items, Fixed, Frame, Task, runs, waits, Path, Common}
 use Rattle.sf_core.specs.Machine.Next.{Next, does, leaves, returns, joins, nothing, frame_next, next}
 use Rattle.sf_core.specs.Machine.Step.{Event, Does, Goes, Chooses, task_with, TaskStep, set_holder, returned, free_all_if}
-use Rattle.sf_core.specs.Machine.Whole.{Part, Stand, running, waiting, stand_of, holders}
 use Rattle.sf_core.specs.Program.Init.{sets_up}
 use Rattle.sf_core.specs.Program.Syntax.{Block, done, then, Command, assign, look_up, mutate, new, dispose, if, while, call, fork, with, Program}
-use Rattle.sf_part.specs.declared.content.Content.{Content}
 use Rattle.sf_part.specs.Of.{inside}
-use Rattle.sf_part.specs.Steps.{Private, Enters, Exits, Forks, Joins, IsPrivate, IsLocal, IsEntry, IsExit, IsFork, common_of}
+use Rattle.sf_part.specs.Steps.{Private, Enters, Exits, IsPrivate, IsLocal, IsEntry, IsExit, common_of}
 use Rattle.sf_part.specs.Timed.{TimedPart, TimedContent}
 use Rattle.sf_region.specs.Holdings.{inside_of, entered}
 use Rattle.sf_region.specs.Rule.{times, IsTidy}
@@ -85,16 +82,21 @@ module _ (p : Program) (ev : Event) (s t : Common) (kept : List Frame) where
       (kept-is kept (record { fixed = f; todo = rest } ∷ below) u, ap held h)
   local-inside f below (dispose place e) rest l (n, cell, finds, h, u) =
       (kept-is kept (record { fixed = f; todo = rest } ∷ below) u, ap held h)
-  local-inside f below (if place test this that) rest l (h, u) =
-      (chooses-inside (items this ++ rest) (items that ++ rest) f below (inside_todo rest) _ u
-      (inside-block this rest) (inside-block that rest), ap held h)
-  local-inside f below (while place test inv body) rest l (h, u) =
-      (chooses-inside (items body ++ (command (while place test inv body) ∷ rest)) rest f below
-      (inside_todo rest) _ u (inside-block body (command (while place test inv body) ∷ rest)) refl,
-      ap held h)
-  local-inside f below (call place c) rest l (g, there, h, u) =
-      (ap (λ z. inside_of (frames_or z)) u
-      ∙ ap (λ z. z ++ (inside_todo rest ++ inside_of below)) (inside-body g.body), ap held h)
+  local-inside f below (if place test this that) rest l (h, u) = (
+    chooses-inside (items this ++ rest) (items that ++ rest) f below (inside_todo rest) _ u
+        (inside-block this rest) (inside-block that rest),
+    ap held h,
+  )
+  local-inside f below (while place test inv body) rest l (h, u) = (
+    chooses-inside (items body ++ (command (while place test inv body) ∷ rest)) rest f below
+        (inside_todo rest) _ u (inside-block body (command (while place test inv body) ∷ rest)) refl,
+    ap held h,
+  )
+  local-inside f below (call place c) rest l (g, there, h, u) = (
+    ap (λ z. inside_of (frames_or z)) u
+        ∙ ap (λ z. z ++ (inside_todo rest ++ inside_of below)) (inside-body g.body),
+    ap held h,
+  )
   local-inside f below (fork place c d) rest l h = absurd l
   local-inside f below (with place r test body) rest l h = absurd l
 

@@ -2,8 +2,8 @@
 -- place without a part comes.
 -- Names: `settles`, `wins`, `frees`, `begins`, `admits` are the kinds of step; `parts-LAW` speaks of
 -- the parts in views.
-use Rattle.std.specs.Prelude.{◌≡◌, ◌≢◌, ◌⊎◌, ◌==◌, ◌+◌, ◌<◌, ◌≤◌, ℕ, zero, suc, cond, Bool, true, false, List, [], ◌∷◌, ◌++◌, map, length, slice_index, Option, Some, None, Contains, flat_map}
-use Rattle.std.proofs.Common.{set, sym, ap, ◌∙◌, refl, subst, inl, inr, ⊎_elim, arith, append-nil, true≢false, eq-eqb, ne_eqb, length-set, set-set, get_or-set_same, get_or-set_other}
+use Rattle.std.specs.Prelude.{◌≡◌, ◌≢◌, ◌==◌, ◌+◌, ◌<◌, ◌≤◌, ℕ, zero, suc, cond, Bool, true, false, List, [], ◌∷◌, ◌++◌, map, length, slice_index, Option, Some, None, Contains}
+use Rattle.std.proofs.Common.{set, sym, ap, ◌∙◌, refl, subst, ⊎_elim, arith, append-nil, true≢false, eq-eqb, ne_eqb, length-set, set-set, get_or-set_same, get_or-set_other}
 use Rattle.std.proofs.lemmas.Grind.{flat_map-append}
 use Rattle.std.proofs.lemmas.List.Sums.{sum_by-cons}
 use Rattle.std.proofs.lemmas.Option.{none-some, same_Some}
@@ -200,13 +200,13 @@ module _ (about : Begun) (s : State Slot View) (id : ℕ) (v w : View) (es ms : 
       go (Some k) e = dite (ℕ_discrete q k.resource.0)
           (λ f.
           let one = once v.hand (part_of v.part) r.contents fits.in_hand fits.inside fits.tidy
-              k.resource in
+          k.resource in
           let two : times k.resource.0 (with_hand (Some k) ns)
-              ≡ times k.resource.0 (taken (holding v)) =
-              ap (times k.resource.0) ((λ j. with_hand (sym e j) ns) ∙ stays.taken_is) in
+          ≡ times k.resource.0 (taken (holding v)) =
+          ap (times k.resource.0) ((λ j. with_hand (sym e j) ns) ∙ stays.taken_is) in
           let three = times-cons k.resource.0 k.resource.0 ns in
           let four : one_if (k.resource.0 == k.resource.0) ≡ 1 =
-              ap one_if (eq-eqb k.resource.0 k.resource.0 refl) in
+          ap one_if (eq-eqb k.resource.0 k.resource.0 refl) in
           let five = count-contains k.resource.0 ns (subst (Contains ns) f h) in
           absurd (omega arith))
           (λ ne. ap (λ z. get_elem? (placed z base) q) e
@@ -276,7 +276,9 @@ slot-else ws i j n ne = get_or-set_other ws i j n 0 ne
 
 abbrev pub taken_state : State Slot View → ℕ → ℕ → View → State Slot View
 taken_state s r id w = record {
-  words = set s.words (suc r) 1; homes = set s.homes r none'; views = set s.views id w;
+  words = set s.words (suc r) 1;
+  homes = set s.homes r none';
+  views = set s.views id w;
 }
   where
     none' : mathlib.Core.Option.Option Slot
@@ -325,7 +327,11 @@ module _ (about : Begun) (s : State Slot View) (id : ℕ) (v : View) (ms : List 
   still : (j : ℕ) (u : View) → get_elem? s.views j ≡ some u → u.live ≡ true
       → Fits about q.contents owner words j u
   still j u e ul = let f = q.each j u e ul in record {
-    begun = f.begun; in_hand = f.in_hand; has = has-still j u e ul; inside = f.inside; tidy = f.tidy;
+    begun = f.begun;
+    in_hand = f.in_hand;
+    has = has-still j u e ul;
+    inside = f.inside;
+    tidy = f.tidy;
   }
 
   own : Fits about q.contents owner words id ours
@@ -353,22 +359,22 @@ module _ (about : Begun) (s : State Slot View) (id : ℕ) (v : View) (ms : List 
     wide =
         let w = q.wide in let l = length-set s.words (suc r) 1 in
         let m : length (set s.homes r mathlib.Core.Option.none) ≡ length s.homes =
-            length-set s.homes r mathlib.Core.Option.none in omega arith;
+        length-set s.homes r mathlib.Core.Option.none in omega arith;
     even = q.even ∙ sym (length-set s.homes r mathlib.Core.Option.none);
     rests = slot-else s.words (suc r) 0 1 (λ e. absurd (omega arith)) ∙ q.rests;
     free = λ k within zero_word.
         let m : length (set s.homes r mathlib.Core.Option.none) ≡ length s.homes =
-            length-set s.homes r mathlib.Core.Option.none in
+        length-set s.homes r mathlib.Core.Option.none in
         let ne : k ≢ r = λ f.
-            let x : slice_index words (suc k) ≡ 1 = ap (λ z. slice_index words (suc z)) f ∙ word-self in
-            absurd (omega arith) in
+        let x : slice_index words (suc k) ≡ 1 = ap (λ z. slice_index words (suc z)) f ∙ word-self in
+        absurd (omega arith) in
         let f = q.free k (omega arith) (sym (word-other k ne) ∙ zero_word) in
         (f.0, set_else s.homes r k mathlib.Core.Option.none ne ∙ f.1, f.2);
     kept = λ k within taken_word.
         let m : length (set s.homes r mathlib.Core.Option.none) ≡ length s.homes =
-            length-set s.homes r mathlib.Core.Option.none in
+        length-set s.homes r mathlib.Core.Option.none in
         let here : get_elem? (set s.views id ours) id ≡ some ours =
-            set_here s.views id ours (in_range s.views id v at) in
+        set_here s.views id ours (in_range s.views id v at) in
         let ns : List ℕ = entered (part_of v.part).part.stand in
         dite (ℕ_discrete k r)
         (λ f. (
@@ -385,7 +391,7 @@ module _ (about : Begun) (s : State Slot View) (id : ℕ) (v : View) (ms : List 
         (λ mine.
         let is : t.0 ≡ v = some-injective t.0 v (sym t.1 ∙ (ap (get_elem? s.views) mine ∙ at)) in
         let i : Contains (taken (holding v)) k =
-            subst (λ (z : View). Contains (taken (holding z)) k) is t.3 in (
+        subst (λ (z : View). Contains (taken (holding z)) k) is t.3 in (
           ours,
           ap (get_elem? (set s.views id ours)) (owner-other k ne ∙ mine) ∙ here,
           vl,
@@ -517,9 +523,9 @@ module _ (about : Begun) (s : State Slot View) (id : ℕ) (v w : View) (ms : Lis
         (λ mine.
         let is : t.0 ≡ v = some-injective t.0 v (sym t.1 ∙ (ap (get_elem? s.views) mine ∙ at)) in
         let i : Contains (with_hand v.hand (ns' v)) n =
-            subst (λ (z : View). Contains (taken (holding z)) n) is t.3 in
+        subst (λ (z : View). Contains (taken (holding z)) n) is t.3 in
         let j : Contains (ns' v) n = ⊎_elim (λ e. absurd (ne (sym e))) (λ x. x)
-            (has-cases r n (ns' v) (subst (λ z. Contains (with_hand z (ns' v)) n) hand i)) in (
+        (has-cases r n (ns' v) (subst (λ z. Contains (with_hand z (ns' v)) n) hand i)) in (
           w,
           ap (get_elem? (set s.views id w)) mine ∙ set_here s.views id w (in_range s.views id v at),
           wl,
@@ -663,9 +669,12 @@ begins about ws slots may limit full long zeros =
       rests = zeros 0;
       free = λ r less z.
           let e = even in
-          let y = there-at about.contents r (omega arith) in
-          (y.0, at_map some (map Some about.contents) r (Some y.0)
-          (at_map Some about.contents r y.0 y.1), at_map Some about.contents r y.0 y.1);
+          let y = there-at about.contents r (omega arith) in (
+            y.0,
+            at_map some (map Some about.contents) r (Some y.0)
+                (at_map Some about.contents r y.0 y.1),
+            at_map Some about.contents r y.0 y.1,
+          );
       kept = λ r less ne. absurd (ne (zeros (suc r)));
       each = one;
       exactly = λ r k e. may.exactly r k (some-at about.contents r k e);

@@ -1,16 +1,15 @@
 -- Lists with one thing in the middle, and contents by resource.
 -- Names: `has-LAW` speaks of what a list contains, `sum-LAW` of sums, `present-LAW` of the contents
 -- that count.
-use Rattle.std.specs.Prelude.{slice_index, ◌≤◌, ◌≡◌, ◌≢◌, ◌⊎◌, ◌+◌, ◌<◌, ℕ, zero, suc, List, [], ◌∷◌, ◌++◌, map, length, Option, Some, None, Contains, flat_map}
+use Rattle.std.specs.Prelude.{slice_index, ◌≤◌, ◌≡◌, ◌≢◌, ◌⊎◌, ◌+◌, ◌<◌, ℕ, zero, suc, List, [], ◌∷◌, ◌++◌, length, Option, Some, None, Contains}
 use Rattle.std.specs.List.{sum_by}
-use Rattle.std.proofs.Common.{replicate, lt_of_not-le, set, sym, ap, ◌∙◌, refl, subst, inl, inr, ⊎_elim, arith, append_assoc}
-use Rattle.std.proofs.lemmas.List.{map-append, get_or-replicate, get_or_past, length-replicate}
+use Rattle.std.proofs.Common.{replicate, lt_of_not-le, set, sym, ap, ◌∙◌, refl, subst, inl, inr, ⊎_elim, arith}
+use Rattle.std.proofs.lemmas.List.{get_or-replicate, get_or_past, length-replicate}
 use Rattle.std.proofs.lemmas.List.Elements.{Contains-append_cases, Contains-append_left, Contains-append_right, Contains-push, Contains-push_cases}
 use Rattle.std.proofs.lemmas.List.Sums.{sum_by-append, sum_by-cons}
 use native.Mathlib.Decide.{dec_le}
 use mathlib.Core.Option.{some, some-injective, some-ne-none}
 use lib.ListN.{get_elem?}
-use Rattle.sf_core.specs.Machine.Whole.{Content as WholeContent}
 use Rattle.sf_part.specs.declared.content.Content.{Content}
 use Rattle.sf_part.specs.Contents.{content_of}
 use Rattle.sf_region.specs.Rule.{present}
@@ -26,7 +25,10 @@ module _ {A : Type 0} where
   pub cut : (l : List A) (i : ℕ) (a : A) → get_elem? l i ≡ some a → Cut l i a
   cut [] i a e = absurd (some-ne-none a (sym e))
   cut (x ∷ xs) zero a e = record {
-    before = []; after = xs; is = ap (λ z. z ∷ xs) (some-injective x a e); sets = λ b. refl;
+    before = [];
+    after = xs;
+    is = ap (λ z. z ∷ xs) (some-injective x a e);
+    sets = λ b. refl;
   }
   cut (x ∷ xs) (suc i) a e = let c = cut xs i a e in record {
     before = x ∷ c.before;

@@ -1,7 +1,7 @@
 -- What marked events lead to, and one event more.
 -- Names: `makes-LAW`, `numbered-LAW`; `history-LAW` makes a history longer; `task-LAW` speaks of the
 -- tasks of parts.
-use Rattle.std.specs.Prelude.{◌≡◌, List, [], ◌∷◌, ◌++◌, map, Option, Some, None, Contains}
+use Rattle.std.specs.Prelude.{◌≡◌, List, [], ◌∷◌, ◌++◌, map, Some, None, Contains}
 use Rattle.std.specs.Option.{option_map}
 use Rattle.std.proofs.Common.{sym, ap, ◌∙◌, refl, subst, ⊎_elim}
 use Rattle.std.proofs.lemmas.List.{map-append}
@@ -54,8 +54,7 @@ history-more p first c marks m parts news contents others h l kind =
       whole = l.whole;
       numbered = λ s k.
           let (t, n, i) = h.numbered s k in
-          let (u, o, j) = l.numbered t i in
-          (
+          let (u, o, j) = l.numbered t i in (
             u,
             subst (λ z. NumberedFrom p c s z l.config u)
                 (sym (map-append (λ (x : Mark). x.event) marks (m ∷ [])))

@@ -1,14 +1,12 @@
 -- What the condition of a region reads is there, with the content of its resource in hand.
 -- Names: `reads-LAW`.
-use Rattle.std.specs.Prelude.{◌≡◌, ◌∷◌, List}
-use Rattle.std.proofs.Common.{sym, ap, ◌∙◌, subst, inl}
+use Rattle.std.proofs.Common.{ap, ◌∙◌, subst, inl}
 use Rattle.sf_base.proofs.MapSplits.{map-same}
 use Rattle.sf_core.specs.Assertions.Sat.{IsTrueOf}
-use Rattle.sf_core.specs.Machine.Config.{command, evaluate}
+use Rattle.sf_core.specs.Machine.Config.{evaluate}
 use Rattle.sf_core.specs.Machine.Whole.{running}
 use Rattle.sf_core.specs.Program.Formed.{IsFormed}
 use Rattle.sf_core.specs.Program.Syntax.{with, Program}
-use Rattle.sf_frame.specs.Checked.Nexts.{frames_with}
 use Rattle.sf_frame.specs.Stores.{together}
 use Rattle.sf_part.proofs.Entries.{enter-slots, next-shape}
 use Rattle.sf_part.specs.declared.content.Content.{Content}

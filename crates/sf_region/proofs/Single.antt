@@ -1,10 +1,10 @@
 -- Stamps and logs after an event of a task that runs, which is neither a fork nor a join.
 -- Names: `single-LAW`.
-use Rattle.std.specs.Prelude.{◌≡◌, ◌≢◌, ◌⊎◌, ◌+◌, ◌<◌, ◌≤◌, ℕ, suc, cond, Bool, true, false, List, [], ◌∷◌, ◌++◌, map, length, Option, Some, None, Contains}
+use Rattle.std.specs.Prelude.{◌≡◌, ◌⊎◌, ◌+◌, ◌<◌, ◌≤◌, ℕ, suc, cond, Bool, true, false, List, [], ◌∷◌, ◌++◌, map, length, Option, Some, Contains}
 use Rattle.std.specs.List.{sum_by}
-use Rattle.std.proofs.Common.{sym, ap, ◌∙◌, refl, subst, inl, inr, ⊎_elim, arith, true≢false}
+use Rattle.std.proofs.Common.{sym, ap, ◌∙◌, refl, subst, inl, inr, ⊎_elim, arith}
 use Rattle.std.proofs.lemmas.List.{map-append, length-append}
-use Rattle.std.proofs.lemmas.List.Elements.{Contains-push_cases, Contains-append_left}
+use Rattle.std.proofs.lemmas.List.Elements.{Contains-push_cases}
 use Rattle.std.proofs.lemmas.List.Sums.{sum_by-append, sum_by-cons}
 use mathlib.Core.Option.{some}
 use lib.ListN.{get_elem?}
@@ -14,7 +14,7 @@ use Rattle.sf_part.proofs.Trees.{at_path, path-self, path-same}
 use Rattle.sf_part.specs.declared.content.Content.{Content}
 use Rattle.sf_part.specs.Timed.{Stamped, TimedPart}
 use Rattle.sf_region.proofs.Lists.{has-middle, has-focus, has-unfocus, sum-focus}
-use Rattle.sf_region.specs.Marks.{Kind, forking, joining, Mark}
+use Rattle.sf_region.specs.Marks.{joining, Mark}
 use Rattle.sf_region.specs.Stamps.{Touches, IsChild, Tied, Rising, entry_of, units_of, Stamps}
 
 rising-push : (marks : List Mark) (n : Mark) → Rising marks
@@ -121,8 +121,8 @@ module _ (first : TimedPart) (marks : List Mark) (before after : List TimedPart)
             let i = sum-focus (λ (q : TimedPart). sum_by weigh q.log) before after a in
             let j = sum-focus (λ (q : TimedPart). sum_by weigh q.log) before after b in
             let z : sum_by weigh (map entry_of (marks ++ m ∷ []))
-                ≡ sum_by weigh (map entry_of marks ++ entry_of m ∷ []) =
-                ap (sum_by weigh) (map-append entry_of marks (m ∷ [])) in
+            ≡ sum_by weigh (map entry_of marks ++ entry_of m ∷ []) =
+            ap (sum_by weigh) (map-append entry_of marks (m ∷ [])) in
             let w = sum_by-append weigh (map entry_of marks) (entry_of m ∷ []) in
             let v = sum_by-cons weigh (entry_of m) [] in omega arith;
         late = λ k h. ⊎_elim (λ i. st.late k i)
@@ -153,24 +153,30 @@ module _ (first : TimedPart) (marks : List Mark) (before after : List TimedPart)
             (has-focus before after b q h);
         gone = λ path child c none.
             let ne : at_path t child ≡ false = ⊎_elim
-                (λ (e : child ≡ t). absurd (none b (has-middle before after b) (task ∙ sym e)))
-                (λ e. e) (same-or child t) in
+            (λ (e : child ≡ t). absurd (none b (has-middle before after b) (task ∙ sym e)))
+            (λ e. e) (same-or child t) in
             let x = st.gone path child c (λ q h e. ⊎_elim
-                (λ (i : a ≡ q). none b (has-middle before after b)
-                (task ∙ (ap (λ (z : TimedPart). z.part.task) i ∙ e)))
-                (λ i. none q (has-unfocus before after b q i) e) (has-focus before after a q h)) in
+            (λ (i : a ≡ q). none b (has-middle before after b)
+            (task ∙ (ap (λ (z : TimedPart). z.part.task) i ∙ e)))
+            (λ i. none q (has-unfocus before after b q i) e) (has-focus before after a q h)) in
             let y = reign-other child ne in let z = reign-up path in omega arith;
         elders = λ path q h c. ⊎_elim
             (λ (e : b ≡ q).
             let x : b.clock ≡ q.clock = ap (λ (z : TimedPart). z.clock) e in
-            let c' : IsChild path t = (c.0, sym (ap (λ (z : TimedPart). z.part.task) (sym e)
-                ∙ task) ∙ c.1) in
+            let c' : IsChild path t = (
+              c.0,
+              sym (ap (λ (z : TimedPart). z.part.task) (sym e)
+                  ∙ task) ∙ c.1,
+            ) in
             let y = st.elders path a was-there c' in
             ⊎_elim (λ (f : path ≡ t). let w = reign-here path f in omega arith)
             (λ f. let w = reign-other path f in omega arith) (same-or path t))
             (λ i. let x = st.elders path q (old-part q i) c in
-            ⊎_elim (λ (f : path ≡ t). absurd (childless q i (c.0, c.1
-            ∙ ap (λ (z : Path). z ++ c.0 ∷ []) f)))
+            ⊎_elim (λ (f : path ≡ t). absurd (childless q i (
+              c.0,
+              c.1
+                  ∙ ap (λ (z : Path). z ++ c.0 ∷ []) f,
+            )))
             (λ f. let w = reign-other path f in omega arith) (same-or path t))
             (has-focus before after b q h);
         old = λ q h. ⊎_elim

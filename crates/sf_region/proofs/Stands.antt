@@ -6,7 +6,7 @@ use Rattle.sf_base.specs.declared.ids.ResId.{ResId}
 use Rattle.sf_core.specs.Machine.Config.{Frame, runs}
 use Rattle.sf_core.specs.Machine.Next.{does, next}
 use Rattle.sf_core.specs.Machine.Whole.{Part, Stand, running, waiting}
-use Rattle.sf_core.specs.Program.Syntax.{Command, with}
+use Rattle.sf_core.specs.Program.Syntax.{with}
 use Rattle.sf_part.specs.Guards.{IsAtRegion}
 
 abbrev frames_or : Stand → List Frame

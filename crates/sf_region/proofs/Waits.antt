@@ -6,9 +6,9 @@ use Rattle.std.proofs.Common.{set, sym, ap, ◌∙◌, refl, subst, inl, inr, �
 use Rattle.std.proofs.lemmas.List.{length-append, map-append, take-append-le, take_all}
 use Rattle.std.proofs.lemmas.List.Elements.{Contains-append_left, Contains-append_right}
 use Rattle.std.proofs.lemmas.Grind.{flat_map-append}
-use Rattle.std.proofs.lemmas.Option.{none-some, same_Some}
+use Rattle.std.proofs.lemmas.Option.{none-some}
 use mathlib.Core.Logic.{dite}
-use mathlib.Core.Option.{some, some-injective, some-ne-none}
+use mathlib.Core.Option.{some, some-injective}
 use native.Mathlib.Decide.{ℕ_discrete}
 use lib.ListN.{get_elem?}
 use Rattle.atomic_table.proofs.Lists.{at_set}
@@ -19,11 +19,11 @@ use Rattle.sf_base.specs.declared.value.Value.{Value}
 use Rattle.sf_core.specs.declared.assertion.Test.{Test}
 use Rattle.sf_core.specs.declared.command.Expr.{Expr}
 use Rattle.sf_core.specs.Assertions.Sat.{IsTrueOf}
-use Rattle.sf_core.specs.Machine.Config.{Frame, Fixed, runs, Path, Config, command, evaluate, task_at}
+use Rattle.sf_core.specs.Machine.Config.{Fixed, runs, Path, Config, evaluate}
 use Rattle.sf_core.specs.Machine.Enabled.{variable, ReadsTest}
-use Rattle.sf_core.specs.Machine.SpentWaits.{MayMiss} 
+use Rattle.sf_core.specs.Machine.SpentWaits.{MayMiss}
 use Rattle.sf_core.specs.Machine.SpentWaits as waits
-use Rattle.sf_core.specs.Machine.Whole.{Part as WholePart, Content as WholeContent, Whole, own_stand, running}
+use Rattle.sf_core.specs.Machine.Whole.{Part as WholePart, Content as WholeContent, Whole, own_stand}
 use Rattle.sf_core.specs.Program.Syntax.{with}
 use Rattle.sf_part.proofs.Entries.{next-shape}
 use Rattle.sf_part.proofs.Order.{whole-focus}
@@ -39,17 +39,16 @@ use Rattle.sf_part.specs.PartView.{part_of}
 use Rattle.sf_part.specs.Steps.{HasInHand}
 use Rattle.sf_part.specs.Timed.{TimedPart}
 use Rattle.sf_region.proofs.Events.{around}
-use Rattle.sf_region.proofs.Insides.{one_if}
-use Rattle.sf_region.proofs.Keeps.{deeper, in-hand, live-group, parts-at}
-use Rattle.sf_region.proofs.Lists.{Cut, at-has, others-at, cut, in_range, has-cases, has-first, has-later, has-middle, has-none, present-append}
+use Rattle.sf_region.proofs.Keeps.{live-group, parts-at}
+use Rattle.sf_region.proofs.Lists.{at-has, others-at, cut, in_range, has-cases, has-first, has-later, has-none, present-append}
 use Rattle.sf_region.proofs.Runs.{history-arrives, task-apart}
 use Rattle.sf_region.specs.declared.views.Begun.{Begun}
 use Rattle.sf_region.specs.declared.views.View.{View}
-use Rattle.sf_region.specs.Holdings.{Holding, group, taken, with_hand, entered, Does, Act, Advance}
-use Rattle.sf_region.specs.Marks.{Kind, private, entry, exit, forking, joining, Mark, Arrives, History}
+use Rattle.sf_region.specs.Holdings.{Holding, taken, with_hand, entered, Does, Act, Advance}
+use Rattle.sf_region.specs.Marks.{Kind, private, entry, exit, forking, joining, Mark, Arrives}
 use Rattle.sf_region.specs.Plays.{Known, moved, won, lost, giving, left, bump, since}
-use Rattle.sf_region.specs.Rule.{Slot, holding, group_of, parts_in, untimed, present, IsTidy, Fits, Rule, Waits, Law}
-use Rattle.sf_region.specs.Waits.{BeganAt, Places, Missed, first_of, opening_parts, program_in}
+use Rattle.sf_region.specs.Rule.{Slot, holding, group_of, parts_in, untimed, present, IsTidy, Rule, Waits, Law}
+use Rattle.sf_region.specs.Waits.{BeganAt, Places, Missed, opening_parts, program_in}
 
 pub places-none : (b : Begun) (marks : List Mark) (t : Path) (r : ResId) → Places b marks t r 0
 places-none b marks t r = record {
@@ -141,9 +140,11 @@ act-own p a c m (stamp, does) = go m.kind does
         × (a.part.clock < c.part.clock)
     go private (hand, kids, e) =
         (e.acts.own, e.acts.task, (let n = e.notes.clock_is in omega arith))
-    go (entry r) (k, in_hand, of, hand, kids, e) =
-        (e.acts.own ∙ e.hand.task, e.acts.task ∙ e.hand.task,
-        (let n = e.notes.clock_is in omega arith))
+    go (entry r) (k, in_hand, of, hand, kids, e) = (
+      e.acts.own ∙ e.hand.task,
+      e.acts.task ∙ e.hand.task,
+      (let n = e.notes.clock_is in omega arith),
+    )
     go (exit r) (k, empty, hand, of, kids, is_in, gives) =
         let e = gives.exits in
         (e.acts.own, sym e.hand.task ∙ e.acts.task, (let n = e.notes.clock_is in omega arith))
@@ -216,7 +217,7 @@ module _ (views : List View) (contents : List WholeContent) (d : Config)
       (subst (λ z. Contains z (part_of u.part)) (sym (live-group u ul))
       (has-first (part_of u.part) (holding u).kids)) in
       let there : Contains (parts_in c.before ++ ((holding v).kids ++ parts_in c.after))
-          (part_of u.part) = ⊎_elim
+      (part_of u.part) = ⊎_elim
       (λ k. Contains-append_left (parts_in c.before) ((holding v).kids ++ parts_in c.after)
       (part_of u.part) k)
       (λ k. Contains-append_right (parts_in c.before) ((holding v).kids ++ parts_in c.after)
@@ -309,18 +310,20 @@ module _ (b : Begun) (marks : List Mark) (s : State Slot View) (q : Rule b marks
       let w = h.whole in (
         history-arrives (program_in b) (opening_parts b) c marks (untimed (parts_in s.views))
             (present q.contents) h,
-        ((at-region s.views (present q.contents) h.config w id v e live r stands.0 stands.1
-            stands.2).0,
-        dite (ℕ_discrete j id)
-            (λ same.
-            let is : u ≡ v = some-injective u v (sym t.1 ∙ (ap (get_elem? s.views) same ∙ e)) in
-            let i : Contains (with_hand v.hand (entered (part_of v.part).part.stand)) r.0 =
-                subst (λ (z : View). Contains (taken (holding z)) r.0) is t.3 in
-            absurd (Rattle.std.proofs.Common.true≢false (sym (tidy-holds (part_of v.part) r
-            (q.each id v e live).tidy (subst (λ z. Contains
-            (with_hand z (entered (part_of v.part).part.stand)) r.0) empty i)) ∙ idle)))
-            (λ ne. ⊎_elim (λ x. inl x) (λ x. inr (inl x))
-            (other h.config w j u ne t.1 t.2 t.3 u.hand refl))),
+        (
+          (at-region s.views (present q.contents) h.config w id v e live r stands.0 stands.1
+              stands.2).0,
+          dite (ℕ_discrete j id)
+              (λ same.
+              let is : u ≡ v = some-injective u v (sym t.1 ∙ (ap (get_elem? s.views) same ∙ e)) in
+              let i : Contains (with_hand v.hand (entered (part_of v.part).part.stand)) r.0 =
+              subst (λ (z : View). Contains (taken (holding z)) r.0) is t.3 in
+              absurd (Rattle.std.proofs.Common.true≢false (sym (tidy-holds (part_of v.part) r
+              (q.each id v e live).tidy (subst (λ z. Contains
+              (with_hand z (entered (part_of v.part).part.stand)) r.0) empty i)) ∙ idle)))
+              (λ ne. ⊎_elim (λ x. inl x) (λ x. inr (inl x))
+              (other h.config w j u ne t.1 t.2 t.3 u.hand refl)),
+        ),
       )
     where
       other : (d : Config) → Whole (untimed (parts_in s.views)) (present q.contents) d → (j : ℕ)
@@ -352,9 +355,12 @@ module _ (b : Begun) (marks : List Mark) (s : State Slot View) (q : Rule b marks
               (λ (f : k.resource.0 ≡ r.0).
               let same : k.resource ≡ r = λ m. record { 0 = f m } in
               let at' = (hands j u g ul k is).0 in
-              inr ((part_of u.part).part.task, apart,
-              (at-region s.views (present q.contents) d w j u g ul r at'.0 at'.1
-              (subst (λ (z : ResId). StandsAt (part_of u.part).part z at'.0 at'.1) same at'.2)).0))
+              inr (
+                (part_of u.part).part.task,
+                apart,
+                (at-region s.views (present q.contents) d w j u g ul r at'.0 at'.1
+                    (subst (λ (z : ResId). StandsAt (part_of u.part).part z at'.0 at'.1) same at'.2)).0,
+              ))
               (λ n. inl (deep n))
               (has-cases k.resource.0 r.0 (entered (part_of u.part).part.stand) i)
 
@@ -379,7 +385,7 @@ module _ (b : Begun) (marks : List Mark) (s : State Slot View) (q : Rule b marks
       ≡ present cs.before ++ (content_of k).content ∷ present cs.after =
       ap present cs.is ∙ present-append cs.before (Some k ∷ cs.after) in
       let w2 : Whole (before ++ a ∷ after)
-          (present cs.before ++ (content_of k).content ∷ present cs.after) d =
+      (present cs.before ++ (content_of k).content ∷ present cs.after) d =
       subst (λ z. Whole (before ++ a ∷ after) z d) contents_is fw in
       let apart = contents_are_apart before after a (present cs.before) (present cs.after)
       (content_of k).content d w2 in
@@ -396,10 +402,15 @@ module _ (b : Begun) (marks : List Mark) (s : State Slot View) (q : Rule b marks
       (present cs.before) (content_of k).content (present cs.after) w2.free in (
         history-arrives (program_in b) (opening_parts b) c marks (untimed (parts_in s.views))
             (present q.contents) h,
-        (at'.0, inr (inr (ap d.common.held (sym is) ∙ free,
+        (
+          at'.0,
+          inr (inr (
+            ap d.common.held (sym is) ∙ free,
             λ true_there. not_true f test st both apart.0.1 (seen.1
-            (subst (λ (z : Fixed × Test Expr). IsTrueOf (evaluate z.0.slots d.common.store) z.1)
-            (λ i. (at'.1 i, at'.2 i)) true_there))))),
+                (subst (λ (z : Fixed × Test Expr). IsTrueOf (evaluate z.0.slots d.common.store) z.1)
+                (λ i. (at'.1 i, at'.2 i)) true_there)),
+          )),
+        ),
       )
 
 -- What is so of each view

@@ -1,6 +1,6 @@
 -- Calls: when a task may call the table, and what it is told.
 -- Hoare, "Towards a Theory of Parallel Programming" (1972); O'Hearn (2007) for what crosses.
-use Rattle.std.specs.Prelude.{◌≡◌, ◌<◌, ℕ, false, List, [], length, Option, Some, None}
+use Rattle.std.specs.Prelude.{◌≡◌, ◌<◌, false, List, [], length}
 use Rattle.sf_base.specs.declared.ids.ResId.{ResId}
 use Rattle.sf_core.specs.declared.assertion.Test.{Test}
 use Rattle.sf_core.specs.declared.command.Expr.{Expr}
@@ -17,7 +17,6 @@ use Rattle.sf_part.specs.Guards.{IsAtRegion, StandsAt}
 use Rattle.sf_part.specs.PartView.{IsPartOf, part_of}
 use Rattle.sf_region.specs.declared.entry.Entry.{Entry}
 use Rattle.sf_region.specs.declared.entry.Entry.TheVariants.{Entered, Held}
-use Rattle.sf_region.specs.declared.views.Begun.{Begun}
 use Rattle.sf_region.specs.declared.views.View.{View}
 use Rattle.sf_region.specs.Holdings.{Advance}
 use Rattle.sf_region.specs.Marks.{Mark}

@@ -1,6 +1,6 @@
 -- Plays: what each step on a word makes of a seat's view, and what its caller is told.
 -- Ordinary: the view after from the view before, by the kinds of step.
-use Rattle.std.specs.Prelude.{◌≡◌, ◌≢◌, ◌==◌, ◌+◌, ◌<◌, ◌≤◌, ℕ, suc, cond, min, max, true, false, List, [], ◌∷◌, ◌++◌, length, map, Option, Some, None}
+use Rattle.std.specs.Prelude.{◌≡◌, ◌≢◌, ◌==◌, ◌+◌, ◌≤◌, ℕ, suc, cond, min, max, false, List, [], ◌∷◌, ◌++◌, map, Option, Some, None}
 use mathlib.Core.Option.{some}
 use lib.ListN.{get_elem?}
 use Rattle.atomic_table.specs.Table.{Step, Me, rest}
@@ -9,13 +9,12 @@ use Rattle.sf_base.specs.declared.limits.TheConstants.{STEPS}
 use Rattle.sf_core.specs.Machine.Config.{Config}
 use Rattle.sf_part.specs.declared.content.Content.{Content}
 use Rattle.sf_part.specs.declared.part.Part.{Part}
-use Rattle.sf_part.specs.Contents.{IsContentIn, content_of}
+use Rattle.sf_part.specs.Contents.{content_of}
 use Rattle.sf_part.specs.Entry.{AreApart}
 use Rattle.sf_part.specs.PartView.{part_of}
 use Rattle.sf_part.specs.Timed.{TimedPart}
 use Rattle.sf_region.specs.declared.views.Begun.{Begun}
 use Rattle.sf_region.specs.declared.views.View.{View}
-use Rattle.sf_region.specs.Holdings.{Holding}
 use Rattle.sf_region.specs.Marks.{Mark, History}
 use Rattle.sf_region.specs.Rule.{Slot, IsExactly, untimed, present}
 use Rattle.sf_region.specs.Stamps.{Stamps, units_of}
@@ -32,34 +31,61 @@ since a v = cond (a.clock == v.part.clock) v.misses 0
 -- the view with the part as it now is, and these parts of children, and no content in hand
 abbrev pub moved : Part → List Part → View → View
 moved a kids v = record {
-  live = v.live; hand = None; part = a; kids = kids; missed = v.missed; misses = since a v; begun = v.begun;
+  live = v.live;
+  hand = None;
+  part = a;
+  kids = kids;
+  missed = v.missed;
+  misses = since a v;
+  begun = v.begun;
 }
 
 -- a word was won, and its content is in hand
 abbrev pub won : Content → View → View
 won k v = record {
-  live = v.live; hand = Some k; part = v.part; kids = v.kids; missed = k.resource; misses = v.misses;
+  live = v.live;
+  hand = Some k;
+  part = v.part;
+  kids = v.kids;
+  missed = k.resource;
+  misses = v.misses;
   begun = v.begun;
 }
 
 -- a word was found taken: one miss more
 abbrev pub lost : ResId → View → View
 lost r v = record {
-  live = v.live; hand = v.hand; part = v.part; kids = v.kids; missed = r; misses = bump v.misses;
+  live = v.live;
+  hand = v.hand;
+  part = v.part;
+  kids = v.kids;
+  missed = r;
+  misses = bump v.misses;
   begun = v.begun;
 }
 
 -- about to put a content back
 abbrev pub giving : Content → Part → View → View
 giving k a v = record {
-  live = v.live; hand = Some k; part = a; kids = []; missed = v.missed; misses = since a v; begun = v.begun;
+  live = v.live;
+  hand = Some k;
+  part = a;
+  kids = [];
+  missed = v.missed;
+  misses = since a v;
+  begun = v.begun;
 }
 
 -- a content was put back: a miss more where there was no event
 abbrev pub left : Part → View → View
 left a v = record {
-  live = v.live; hand = None; part = a; kids = []; missed = v.missed;
-  misses = cond (a.clock == v.part.clock) (bump v.misses) 0; begun = v.begun;
+  live = v.live;
+  hand = None;
+  part = a;
+  kids = [];
+  missed = v.missed;
+  misses = cond (a.clock == v.part.clock) (bump v.misses) 0;
+  begun = v.begun;
 }
 
 -- the slots that a seat has taken, emptied
@@ -127,7 +153,13 @@ notes a kids m n = (n ≡ (moved a kids m.0, m.1)) × IsThere m.0.begun (part_of
 -- a seat's place with no part: it carries what a receipt says
 abbrev pub dead : View → View
 dead v = record {
-  live = false; hand = None; part = v.part; kids = []; missed = v.missed; misses = v.misses; begun = v.begun;
+  live = false;
+  hand = None;
+  part = v.part;
+  kids = [];
+  missed = v.missed;
+  misses = v.misses;
+  begun = v.begun;
 }
 
 abbrev pub buries : View → Me Slot View → Type 0

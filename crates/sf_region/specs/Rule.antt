@@ -1,6 +1,6 @@
 -- The rule of a table of resources, which holds between any two steps on its words.
 -- O'Hearn (2007), Brookes (2007): what tasks own and what free resources own is all there is.
-use Rattle.std.specs.Prelude.{◌≡◌, ◌≢◌, ◌==◌, ◌+◌, ◌<◌, ◌≤◌, ℕ, suc, cond, min, Bool, true, false, List, [], ◌∷◌, length, map, slice_index, Option, Some, None, Contains, flat_map}
+use Rattle.std.specs.Prelude.{◌≡◌, ◌≢◌, ◌==◌, ◌+◌, ◌<◌, ◌≤◌, ℕ, suc, cond, Bool, true, false, List, [], ◌∷◌, length, map, slice_index, Option, Some, None, Contains, flat_map}
 use Rattle.std.specs.List.{count_by}
 use mathlib.Core.Option.{some}
 use lib.ListN.{get_elem?}
@@ -11,7 +11,6 @@ use Rattle.sf_core.specs.Machine.Config.{Config}
 use Rattle.sf_core.specs.Machine.Whole.{Part as WholePart, Content as WholeContent}
 use Rattle.sf_core.specs.Program.Syntax.{Program}
 use Rattle.sf_part.specs.declared.content.Content.{Content}
-use Rattle.sf_part.specs.declared.part.Part.{Part}
 use Rattle.sf_part.specs.Contents.{IsContentIn, content_of}
 use Rattle.sf_part.specs.Given.{IsContentOf}
 use Rattle.sf_part.specs.Guards.{IsAtRegion}
@@ -123,7 +122,13 @@ pub record Law (about : Begun) (s : State Slot View) : Type 0 where
 -- the view of the first seat
 abbrev pub opening_view : Begun → View
 opening_view b = record {
-  live = true; hand = None; part = b.part; kids = []; missed = record { 0 = 0 }; misses = 0; begun = b;
+  live = true;
+  hand = None;
+  part = b.part;
+  kids = [];
+  missed = record { 0 = 0 };
+  misses = 0;
+  begun = b;
 }
 
 -- MayBegin: with what a table may begin: there is one content for each resource, in their order, and

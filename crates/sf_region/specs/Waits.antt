@@ -37,15 +37,15 @@ BeganAt b c = Whole (opening_parts b) (contents_in b.contents) c
 -- Places: so many places in the list, none before an earlier one, and no event of the task between
 -- them or after; at each a try of the task at the region may miss, wherever the table began
 pub record Places (b : Begun) (marks : List Mark) (task : Path) (r : ResId) (count : ℕ) : Type 0
-    where
-  pub place : ℕ → ℕ
-  pub order : (j k : ℕ) → j ≤ k → k < count → place j ≤ place k
-  pub within : (k : ℕ) → k < count → place k ≤ length marks
-  pub quiet : (k j : ℕ) (m : Mark) → k < count → place k ≤ j → get_elem? marks j ≡ some m
-      → m.event.task ≢ task
-  pub missed : (k : ℕ) → k < count → (c : Config) → BeganAt b c
-      → (a : Arrives (program_in b) (opening_parts b) c (take (place k) marks))
-      × MayMiss a.config task r
+  where
+    pub place : ℕ → ℕ
+    pub order : (j k : ℕ) → j ≤ k → k < count → place j ≤ place k
+    pub within : (k : ℕ) → k < count → place k ≤ length marks
+    pub quiet : (k j : ℕ) (m : Mark) → k < count → place k ≤ j → get_elem? marks j ≡ some m
+        → m.event.task ≢ task
+    pub missed : (k : ℕ) → k < count → (c : Config) → BeganAt b c
+        → (a : Arrives (program_in b) (opening_parts b) c (take (place k) marks))
+        × MayMiss a.config task r
 
 -- Missed: some list of events has such places
 pub record Missed (b : Begun) (task : Path) (r : ResId) (count : ℕ) : Type 0 where

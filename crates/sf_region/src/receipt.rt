@@ -24,7 +24,6 @@ impl<'p> Model for Misses<'p> {
     ghost use Rattle.sf_part.specs.PartView.{part_of};
     ghost use Rattle.sf_region.specs.Plays.{Known};
     ghost use Rattle.sf_region.specs.Receipt.{Receipt};
-
     ghost use Rattle.std.specs.Coded.{codes};
     ghost use denote.Signature.{static_lft};
     ghost use Rattle.sf_region.specs.contracts.views.Begun as begun;
@@ -34,7 +33,11 @@ impl<'p> Model for Misses<'p> {
     ghost coded = { Prim.hlevel (codes, (begun.the_row static_lft).coded) };
 
     ghost view = { λ m. record {
-      begun = m.note.me.0.begun; task = m.task; resource = m.resource; count = m.count } };
+      begun = m.note.me.0.begun;
+      task = m.task;
+      resource = m.resource;
+      count = m.count;
+    } };
 
     ghost invariant = { λ m. (m.task ≡ (part_of m.note.me.0.part).part.task)
         × (m.resource ≡ m.note.me.0.missed)

@@ -39,7 +39,6 @@ impl<'p> Model for Regions<'p> {
     ghost use Rattle.atomic_table.specs.Seated.{TableId};
     ghost use Rattle.sf_region.specs.declared.views.Begun.{Begun};
     ghost use Rattle.sf_region.specs.Keys.{begun_of};
-
     ghost use Rattle.std.specs.Coded.{codes};
     ghost use denote.Signature.{static_lft};
     ghost use Rattle.sf_region.specs.contracts.views.Begun as begun;
@@ -69,7 +68,6 @@ impl<'p> Model for RegionSeat<'p> {
     ghost use Rattle.sf_region.specs.Holdings.{taken};
     ghost use Rattle.sf_region.specs.Plays.{Known, hollow};
     ghost use Rattle.sf_region.specs.Rule.{holding};
-
     ghost use Rattle.std.specs.Coded.{codes};
     ghost use denote.Signature.{static_lft};
     ghost use Rattle.sf_region.specs.contracts.views.View as knows;
@@ -219,7 +217,11 @@ impl<'p> Regions<'p> {
         seat.missed = r;
         if found == 0 {
             seat.misses = misses;
-            entry_with(self.table.shared.exchange(&mut seat.seat, r.0 as usize, None))
+            entry_with(
+                self.table
+                    .shared
+                    .exchange(&mut seat.seat, r.0 as usize, None),
+            )
         } else {
             seat.misses = bumped(misses);
             Entry::Held

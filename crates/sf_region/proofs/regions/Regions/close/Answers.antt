@@ -1,8 +1,7 @@
-use Rattle.std.proofs.Common.{[], List, ◌≡◌, ◌∙◌, ap, map, refl, sym, subst, Some}
+use Rattle.std.proofs.Common.{[], ◌≡◌, ◌∙◌, ap, refl, sym, subst}
 use Rattle.std.specs.Mem.Slots.{slots_items}
 use Rattle.atomic_table.specs.Seated.{TableId}
 use Rattle.atomic_table.specs.Table.{Final, Me, Seen}
-use Rattle.sf_part.specs.declared.content.Content.{Content}
 use Rattle.sf_part.specs.PartView.{part_of}
 use Rattle.sf_region.proofs.Closing.{closing-all}
 use Rattle.sf_region.proofs.Draining.{drain-same}

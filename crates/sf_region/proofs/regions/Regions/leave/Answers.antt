@@ -1,4 +1,4 @@
-use Rattle.std.proofs.Common.{rules, ◌≡◌, ◌∙◌, ap, sym, subst, None}
+use Rattle.std.proofs.Common.{rules, ◌∙◌, ap, sym, subst, None}
 use Rattle.atomic_table.specs.Seated.{TableId}
 use Rattle.atomic_table.specs.Table.{Me, rest}
 use Rattle.sf_part.specs.PartView.{part_of}
@@ -7,7 +7,7 @@ use Rattle.sf_region.specs.Calls.{MayLeave}
 use Rattle.sf_region.specs.declared.views.Begun.{Begun}
 use Rattle.sf_region.specs.declared.views.View.{View}
 use Rattle.sf_region.specs.Holdings.{taken}
-use Rattle.sf_region.specs.Plays.{IsThere, Known, bump, hollow, left}
+use Rattle.sf_region.specs.Plays.{Known, bump, hollow, left}
 use Rattle.sf_region.specs.Rule.{Slot, holding}
 use Rattle.sf_region.specs.Waits.{program_in}
 use Rattle.sf_region.proofs.regions.Regions.leave.Goals as goal
@@ -15,9 +15,12 @@ use Rattle.sf_region.proofs.regions.Regions.leave.Goals as goal
 pub exchange-empty-requires : goal.exchange-empty-requires
 exchange-empty-requires c = (
   search rules,
-  (None, rest-there (taken-given (program_in c.args.self.now.1) _ c.args.seat.now c.args.part.now
-      c.args.r c.args.content c.seat.inside.seat.me c.seat.view_is c.seat.invariant.1
-      c.requires.may)),
+  (
+    None,
+    rest-there (taken-given (program_in c.args.self.now.1) _ c.args.seat.now c.args.part.now
+        c.args.r c.args.content c.seat.inside.seat.me c.seat.view_is c.seat.invariant.1
+        c.requires.may),
+  ),
 )
 
 pub leave_word-requires-clause-near : goal.leave_word-requires-clause-near
@@ -26,9 +29,11 @@ leave_word-requires-clause-near c =
       content = c.args.content;
       may = subst (λ (z : Begun × View). MayLeave (program_in z.0) z.1 c.args.part.now c.args.r
           c.args.content)
-          (λ i. (sym (ap (λ (z : TableId × Begun). z.1) c.self.view_is) i,
-          (sym (ap (λ (z : TableId × View). z.1) c.seat.view_is)
-          ∙ ap (λ (k : Me Slot View). k.0) (sym e.3)) i)) c.requires.may;
+          (λ i. (
+            sym (ap (λ (z : TableId × Begun). z.1) c.self.view_is) i,
+            (sym (ap (λ (z : TableId × View). z.1) c.seat.view_is)
+                ∙ ap (λ (k : Me Slot View). k.0) (sym e.3)) i,
+          )) c.requires.may;
       more = rest c.seat.inside.seat.me.1;
       deep = ap (λ (k : Me Slot View). k.1) e.3;
     }

@@ -93,6 +93,7 @@ returns-else-found-eq0-clause-tells c =
     let t = c.try_word-found.ensures.tries in
     let miss = c.if-found-eq0.false in
     subst (λ (z : TableId × View). (n.0 ≡ lost c.args.r (moved a [] z.1))
-    × IsThere z.1.begun (part_of a)) c.seat.view_is
-    (try-missed a slots c.args.r m n n c.try_word-found.result t None miss,
-    ((try-told a slots c.args.r m n n c.try_word-found.result t None).1 miss).1)
+    × IsThere z.1.begun (part_of a)) c.seat.view_is (
+      try-missed a slots c.args.r m n n c.try_word-found.result t None miss,
+      ((try-told a slots c.args.r m n n c.try_word-found.result t None).1 miss).1,
+    )
