@@ -159,7 +159,8 @@ tries-word b slots id me a r more less live stands idle adv s law wide at small 
               subst (λ (z : ResId). IsFor v.begun (part_of a) z k) same record {
                 resource = is;
                 exactly = subst (λ (z : Begun).
-                    Rattle.sf_region.specs.Rule.IsExactly (program_in z) r.0 k) (sym (law.rule.each id v at live).begun) exact;
+                    Rattle.sf_region.specs.Rule.IsExactly (program_in z) r.0 k) (sym
+                    (law.rule.each id v at live).begun) exact;
                 apart = apart-from b ms (viewed s id mv) q id mv here live r.0 k f.2;
                 room = room-for b ms (viewed s id mv) q id mv here live r.0 k f.2;
                 there = (q.contents, there, ap (get_elem? q.contents) exact.number ∙ f.2);
@@ -190,7 +191,8 @@ tries-word b slots id me a r more less live stands idle adv s law wide at small 
           (record { words = ws; homes = s.homes; views = set s.views id w }))
           (sym (ap (λ (t : Bool). set s.words (suc r.0) (either t 1 x)) (ne_eqb x 0 miss)
           ∙ same-word s.words (suc r.0) (let a = law.rule.wide in omega arith))) lost-it;
-      hands = λ j u y e l h. all-hands b s law id v at live more own w (empty-hand w refl) j u e l y h;
+      hands = λ j u y e l h. all-hands b s law id v at live more own w (empty-hand w refl) j u e l
+          y h;
       waits = all-wait b s law id v at live more own w
           (λ _. lost-waits b law.marks v a more waited r adv stands missed);
     } in
@@ -266,7 +268,8 @@ leaves-word b slots id me a k rs more live deep adv refused s law wide at small 
         homes = put_back s.homes (sym deep i);
         views = set-set s.views id mv w i;
       }) freed;
-      hands = λ j u y e l h. all-hands b s law id v at live more own w (empty-hand w refl) j u e l y h;
+      hands = λ j u y e l h. all-hands b s law id v at live more own w (empty-hand w refl) j u e l
+          y h;
       waits = all-wait b s law id v at live more own w
           (λ _. left-waits b law.marks v a more (law.waits id v at live) k adv same);
     } in (
@@ -308,7 +311,8 @@ notes-word b slots id me a kids more live adv s law wide at small =
       rule = subst (λ (ws : List ℕ). Rule b ms
           (record { words = ws; homes = s.homes; views = set s.views id w }))
           (sym (same-word s.words 0 (let z = law.rule.wide in omega arith))) q;
-      hands = λ j u y e l h. all-hands b s law id v at live more own w (empty-hand w refl) j u e l y h;
+      hands = λ j u y e l h. all-hands b s law id v at live more own w (empty-hand w refl) j u e l
+          y h;
       waits = all-wait b s law id v at live more own w
           (λ _. moved-waits b law.marks v a more (law.waits id v at live) kids adv);
     } in (
@@ -316,7 +320,12 @@ notes-word b slots id me a kids more live adv s law wide at small =
       keeps,
       tt,
       lawful,
-      (refl, (q.contents, lives b ms (viewed s id w) q id w here live), knows b now lawful id w here live),
+      (
+        refl,
+        (q.contents, lives b ms (viewed s id w) q id w here live),
+        knows b now lawful id w
+            here live,
+      ),
     )
 
 -- a place with no part comes

@@ -1,4 +1,5 @@
--- The end: where the task with which the table began has ended, it is alone, and all contents are at
+-- The end: where the task with which the table began has ended, it is alone, and all contents are
+-- at
 -- home.
 -- Names: `closing-LAW`.
 use Rattle.std.specs.Prelude.{◌≡◌, ◌≢◌, ◌<◌, ℕ, suc, cond, Bool, true, false, List, [], ◌∷◌, ◌++◌, map, length, slice_index, Option, Some, None, Contains}
@@ -47,7 +48,8 @@ path-empty : (path : Path) → same_path [] path ≡ true → path ≡ []
 path-empty [] e = refl
 path-empty (turn ∷ path) e = absurd (true≢false (sym e))
 
-first-entry : (a : WholePart) (contents : List WholeContent) (c : Config) → Whole (a ∷ []) contents c
+first-entry : (a : WholePart) (contents : List WholeContent) (c : Config) → Whole (a ∷ [])
+    contents c
     → a.task ≡ []
 first-entry a contents c w = go (same_path [] a.task) refl
   where
@@ -116,7 +118,8 @@ module _ (about : Begun) (s : State Slot View) (law : Law about s) (id : ℕ) (v
   unfolding RunningEntriesAreAlone
   others-none =
       let h = q.history q.start.0 q.start.1 in
-      running_entries_are_alone a.part (untimed before ++ untimed more) (present q.contents) h.config
+      running_entries_are_alone a.part (untimed before ++ untimed more) (present q.contents)
+      h.config
       frames (whole-focus (untimed before) (untimed more) a.part (present q.contents) h.config
       (focused s.views (present q.contents) h.config h.whole id v at live)) root stand
 
@@ -136,7 +139,8 @@ module _ (about : Begun) (s : State Slot View) (law : Law about s) (id : ℕ) (v
   only-live j u e ul ne =
       let c = cut s.views id v at in
       let there : Contains (parts_in (c.before ++ c.after)) (part_of u.part) =
-      has-flat group_of (c.before ++ c.after) u (part_of u.part) (others-at s.views id v at j u ne e)
+      has-flat group_of (c.before ++ c.after) u (part_of u.part) (others-at s.views id v at j u ne
+      e)
       (subst (λ z. Contains z (part_of u.part)) (sym (live-group u ul))
       (has-first (part_of u.part) (holding u).kids)) in
       ⊎_elim
@@ -173,7 +177,8 @@ module _ (about : Begun) (s : State Slot View) (law : Law about s) (id : ℕ) (v
   closing-slots xs long there = same-lists xs (map Some contents-there.0)
       (let e = q.even in let f = ap length contents-there.1 in omega arith)
       (λ r y e.
-      let less : r < length (map Some contents-there.0) = in_range (map Some contents-there.0) r y e in
+      let less : r < length (map Some contents-there.0) = in_range (map Some contents-there.0) r y
+      e in
       let l = ap length contents-there.1 in let m = q.even in
       let f = q.free r (omega arith) (words-free r (omega arith)) in
       let same : Some f.0 ≡ y = some-injective (Some f.0) y
@@ -202,7 +207,8 @@ pub closing-all : (about : Begun) (id : ℕ) (v : View) (ws : List ℕ) (xs : Li
     → (part_of v.part).part.stand ≡ running frames
     → HasEnded (part_of v.part).part.task (runs frames)
     → (cs : List Content) × (xs ≡ map Some cs) × Finished v.begun (part_of v.part) cs
-closing-all about id v ws xs (s, (law, at), words, long, there) live empty first frames stand ended =
+closing-all about id v ws xs (s, (law, at), words, long, there) live empty first frames stand
+    ended =
     let begun = (law.rule.each id v at live).begun in
     let first' = first ∙ ap (λ (z : Begun). (first_of z).part.task) begun in
     let all = contents-there about s law id v at live empty first' frames stand ended in (

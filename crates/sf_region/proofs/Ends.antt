@@ -1,5 +1,6 @@
 -- From what a step tells to what a call says.
--- Names: `try-LAW` of a try, `leave-LAW` of a content put back, `taken-LAW` of what a seat has taken.
+-- Names: `try-LAW` of a try, `leave-LAW` of a content put back, `taken-LAW` of what a seat has
+-- taken.
 use Rattle.std.specs.Prelude.{◌≡◌, ◌≢◌, ◌==◌, ◌+◌, ℕ, cond, true, List, [], ◌∷◌, Some, None, IfSome, IsSome}
 use Rattle.std.proofs.Common.{sym, ap, ◌∙◌, refl, subst, arith}
 use mathlib.Core.Option.{none}
@@ -97,7 +98,8 @@ module _ (a : Part) (slots : ℕ) (r : ResId) (m n l : Me Slot View) (found : �
 
   pub try-view : (hit : found ≡ 0) → l ≡ (n.0, (r.0, None) ∷ rest n.1)
       → l.0 ≡ won (try-told.0 hit).0 (moved a [] m.0)
-  try-view hit f = ap (λ (k : Me Slot View). k.0) f ∙ ap (λ (k : Me Slot View). k.0) (try-told.0 hit).1
+  try-view hit f = ap (λ (k : Me Slot View). k.0) f ∙ ap (λ (k : Me Slot View). k.0) (try-told.0
+      hit).1
 
   pub try-entered : (hit : found ≡ 0) → n.1 ≡ (r.0, got) ∷ rest n.1
       → l ≡ (n.0, (r.0, None) ∷ rest n.1) → (answer : Entry) → IfSome got (λ k. answer ≡ Entered k)

@@ -63,10 +63,12 @@ Out base ns = (r : ℕ) → Contains ns r → get_elem? base r ≡ some None
 abbrev pub around : List TimedPart → Holding → List TimedPart → List TimedPart
 around before a after = before ++ a.part ∷ (a.kids ++ after)
 
-has-map : {A B : Type 0} (f : A → B) (xs : List A) (x : A) → Contains xs x → Contains (map f xs) (f x)
+has-map : {A B : Type 0} (f : A → B) (xs : List A) (x : A) → Contains xs x → Contains (map f xs)
+    (f x)
 has-map f [] x h = absurd (has-none x h)
 has-map {A} {B} f (y ∷ xs) x h = ⊎_elim
-    (λ (e : y ≡ x). subst (λ (z : A). Contains (f y ∷ map f xs) (f z)) e (has-first (f y) (map f xs)))
+    (λ (e : y ≡ x). subst (λ (z : A). Contains (f y ∷ map f xs) (f z)) e (has-first (f y) (map f
+    xs)))
     (λ k. has-later (f y) (f x) (map f xs) (has-map f xs x k)) (has-cases y x xs h)
 
 pub all-middle : (P : WholeContent → Type 0) (before : List WholeContent) (k : WholeContent)
@@ -391,9 +393,11 @@ module _ (b : Begun) (marks : List Mark) (m : Mark) (before more : List TimedPar
             (λ r o h t inside. not-both b marks m before more x y base told r o h inside
             (ap x.part.holds (sym (same-kind' r t)) ∙ i.1))
             (λ z r c h t there. ⊎_elim
-            (λ (f : (r.0 ≡ s.0) × (k ≡ c)). let g : k.stamp ≡ c.stamp = ap (λ (u : Content). u.stamp) f.1 in
+            (λ (f : (r.0 ≡ s.0) × (k ≡ c)). let g : k.stamp ≡ c.stamp = ap (λ (u : Content).
+            u.stamp) f.1 in
             ⊎_elim (λ old. let l = low z r old t (λ j. record { 0 = sym f.0 j }) in omega arith)
-            (λ (g' : m ≡ z). let l : m.stamp ≡ z.stamp = ap (λ (u : Mark). u.stamp) g' in omega arith)
+            (λ (g' : m ≡ z). let l : m.stamp ≡ z.stamp = ap (λ (u : Mark). u.stamp) g' in omega
+            arith)
             (Contains-push_cases marks m z h))
             (λ f. ⊎_elim (λ old. st.free z r c old t f.1)
             (λ (g : m ≡ z). absurd (f.0 (ap (λ (u : ResId). u.0)
@@ -401,7 +405,8 @@ module _ (b : Begun) (marks : List Mark) (m : Mark) (before more : List TimedPar
             (Contains-push_cases marks m z h)) (which r.0 c there))
             (omega arith)
             (λ r c there. ⊎_elim
-            (λ (f : (r ≡ s.0) × (k ≡ c)). let g : k.stamp ≡ c.stamp = ap (λ (u : Content). u.stamp) f.1 in
+            (λ (f : (r ≡ s.0) × (k ≡ c)). let g : k.stamp ≡ c.stamp = ap (λ (u : Content).
+            u.stamp) f.1 in
             inr (omega arith))
             (λ f. inl (st.stamps r c f.1)) (which r c there))
             (ap length (takes-one m.event (next (runs e.frames)) (numbers x.part.supply)

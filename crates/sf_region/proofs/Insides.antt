@@ -57,7 +57,8 @@ kept-is : (kept frames : List Frame) → runs kept ≡ runs frames → inside_of
 kept-is kept frames e = ap (λ z. inside_of (frames_or z)) e
 
 module _ (p : Program) (ev : Event) (s t : Common) (kept : List Frame) where
-  chooses-inside : {B : Type 0} (this that : List Item) (f : Fixed) (below : List Frame) (ns : List ℕ)
+  chooses-inside : {B : Type 0} (this that : List Item) (f : Fixed) (below : List Frame) (ns :
+      List ℕ)
       (A : Type 0)
       → (A × (runs kept ≡ task_with f this below)) ⊎ (B × (runs kept ≡ task_with f that below))
       → inside_todo this ≡ ns → inside_todo that ≡ ns → inside_of kept ≡ ns ++ inside_of below
@@ -89,7 +90,8 @@ module _ (p : Program) (ev : Event) (s t : Common) (kept : List Frame) where
   )
   local-inside f below (while place test inv body) rest l (h, u) = (
     chooses-inside (items body ++ (command (while place test inv body) ∷ rest)) rest f below
-        (inside_todo rest) _ u (inside-block body (command (while place test inv body) ∷ rest)) refl,
+        (inside_todo rest) _ u (inside-block body (command (while place test inv body) ∷ rest))
+        refl,
     ap held h,
   )
   local-inside f below (call place c) rest l (g, there, h, u) = (

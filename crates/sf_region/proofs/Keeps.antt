@@ -1,6 +1,7 @@
 -- Steps keep the rule: a seat's task goes on, a word is won, a word is freed, a table begins, a
 -- place without a part comes.
--- Names: `settles`, `wins`, `frees`, `begins`, `admits` are the kinds of step; `parts-LAW` speaks of
+-- Names: `settles`, `wins`, `frees`, `begins`, `admits` are the kinds of step; `parts-LAW` speaks
+-- of
 -- the parts in views.
 use Rattle.std.specs.Prelude.{◌≡◌, ◌≢◌, ◌==◌, ◌+◌, ◌<◌, ◌≤◌, ℕ, zero, suc, cond, Bool, true, false, List, [], ◌∷◌, ◌++◌, map, length, slice_index, Option, Some, None, Contains}
 use Rattle.std.proofs.Common.{set, sym, ap, ◌∙◌, refl, subst, ⊎_elim, arith, append-nil, true≢false, eq-eqb, ne_eqb, length-set, set-set, get_or-set_same, get_or-set_other}
@@ -92,7 +93,8 @@ placed-else None ns cs r off = refl
 placed-else (Some k) ns cs r off = set_else cs k.resource.0 r (Some k)
     (λ e. off (subst (λ z. Contains (k.resource.0 ∷ ns) z) (sym e) (has-first k.resource.0 ns)))
 
-length-cleared : (h : Option Content) (cs : List (Option Content)) → length (cleared h cs) ≡ length cs
+length-cleared : (h : Option Content) (cs : List (Option Content)) → length (cleared h cs) ≡
+    length cs
 length-cleared None cs = refl
 length-cleared (Some k) cs = length-set cs k.resource.0 None
 
@@ -100,7 +102,8 @@ length-placed : (h : Option Content) (cs : List (Option Content)) → length (pl
 length-placed None cs = refl
 length-placed (Some k) cs = length-set cs k.resource.0 (Some k)
 
-pub deeper : (h : Option Content) (ns : List ℕ) (r : ℕ) → Contains ns r → Contains (with_hand h ns) r
+pub deeper : (h : Option Content) (ns : List ℕ) (r : ℕ) → Contains ns r → Contains (with_hand h
+    ns) r
 deeper None ns r i = i
 deeper (Some k) ns r i = has-later k.resource.0 r ns i
 
@@ -160,7 +163,8 @@ module _ (about : Begun) (s : State Slot View) (id : ℕ) (v w : View) (es ms : 
   out : Out base (taken (holding v))
   out = cleared-out v.hand (entered (part_of v.part).part.stand) r.contents fits.in_hand fits.inside
 
-  stays : Stays about (parts_in cs.before) (parts_in cs.after) base (ms ++ es) (holding v) (holding w)
+  stays : Stays about (parts_in cs.before) (parts_in cs.after) base (ms ++ es) (holding v)
+      (holding w)
   stays = advance-stays about (parts_in cs.before) (parts_in cs.after) base ms es (holding v)
       (holding w)
       (subst (λ z. Told about ms (around (parts_in cs.before) (holding v) (parts_in cs.after)) z)
@@ -344,7 +348,8 @@ module _ (about : Begun) (s : State Slot View) (id : ℕ) (v : View) (ms : List 
     has = λ k h. ⊎_elim
         (λ (e : content.resource.0 ≡ k).
         let f : k ≡ r = sym e ∙ number in
-        let word : slice_index words (suc k) ≡ 1 = ap (λ z. slice_index words (suc z)) f ∙ word-self in
+        let word : slice_index words (suc k) ≡ 1 = ap (λ z. slice_index words (suc z)) f ∙
+        word-self in
         (let x = q.even in omega arith, (λ z. absurd (omega arith)), ap owner f ∙ owner-self))
         (λ i. has-still id v at vl k (deeper v.hand (entered (part_of v.part).part.stand) k i))
         (has-cases content.resource.0 k (entered (part_of v.part).part.stand) h);
@@ -412,7 +417,8 @@ module _ (about : Begun) (s : State Slot View) (id : ℕ) (v : View) (ms : List 
     exactly = q.exactly;
     start = q.start;
     history = λ c began. subst
-        (λ z. History (program_in about) (opening_parts about) c ms (untimed z) (present q.contents))
+        (λ z. History (program_in about) (opening_parts about) c ms (untimed z) (present
+        q.contents))
         (sym (parts-same s.views id v ours at refl)) (q.history c began);
     stamps = subst (λ z. Stamps (first_of about) ms z q.contents)
         (sym (parts-same s.views id v ours at refl)) q.stamps;
@@ -517,7 +523,8 @@ module _ (about : Begun) (s : State Slot View) (id : ℕ) (v w : View) (ms : Lis
         (f.0, set_else s.homes r n (some (Some k)) ne ∙ f.1, f.2));
     kept = λ n within taken_word.
         let m = length-set s.homes r (some (Some k)) in
-        let ne : n ≢ r = λ same. taken_word (ap (λ z. slice_index freed (suc z)) same ∙ freed-self) in
+        let ne : n ≢ r = λ same. taken_word (ap (λ z. slice_index freed (suc z)) same ∙
+        freed-self) in
         let t = q.kept n (omega arith) (λ z. taken_word (freed-other n ne ∙ z)) in
         dite (ℕ_discrete (q.owner n) id)
         (λ mine.
@@ -542,7 +549,8 @@ module _ (about : Begun) (s : State Slot View) (id : ℕ) (v w : View) (ms : Lis
     exactly = q.exactly;
     start = q.start;
     history = λ c began. subst
-        (λ z. History (program_in about) (opening_parts about) c ms (untimed z) (present q.contents))
+        (λ z. History (program_in about) (opening_parts about) c ms (untimed z) (present
+        q.contents))
         (sym groups-kept) (q.history c began);
     stamps = subst (λ z. Stamps (first_of about) ms z q.contents) (sym groups-kept) q.stamps;
     limit = q.limit;
@@ -565,14 +573,21 @@ admits about ms s w off q =
       rests = q.rests;
       free = q.free;
       kept = λ r less ne.
-          let t = q.kept r less ne in (t.0, at_longer s.views (w ∷ []) (q.owner r) t.0 t.1, t.2, t.3);
+          let t = q.kept r less ne in (
+            t.0,
+            at_longer s.views (w ∷ []) (q.owner r) t.0 t.1,
+            t.2,
+            t.3,
+          );
       each = λ j u e ul. ⊎_elim (λ (old : get_elem? s.views j ≡ some u). q.each j u old ul)
-          (λ (new : w ≡ u). absurd (true≢false (sym ul ∙ ap (λ (z : View). z.live) (sym new) ∙ off)))
+          (λ (new : w ≡ u). absurd (true≢false (sym ul ∙ ap (λ (z : View). z.live) (sym new) ∙
+          off)))
           (at_snoc s.views w u j e);
       exactly = q.exactly;
       start = q.start;
       history = λ c began. subst
-          (λ z. History (program_in about) (opening_parts about) c ms (untimed z) (present q.contents))
+          (λ z. History (program_in about) (opening_parts about) c ms (untimed z) (present
+          q.contents))
           (sym same) (q.history c began);
       stamps = subst (λ z. Stamps (first_of about) ms z q.contents) (sym same) q.stamps;
       limit = q.limit;
@@ -634,7 +649,8 @@ first-stamps a contents early = record {
       omega arith;
   late = λ m h. absurd (has-none m h);
   rising = tt;
-  clocks = λ q h. let e : a.clock ≡ q.clock = ap (λ (z : TimedPart). z.clock) (only a q h) in omega arith;
+  clocks = λ q h. let e : a.clock ≡ q.clock = ap (λ (z : TimedPart). z.clock) (only a q h) in
+      omega arith;
   stamps = λ r k e. let x = early r k e in omega arith;
   supply = let x = sum_by-cons Rattle.sf_region.specs.Stamps.units_of a [] in omega arith;
   reign = λ path. 0;
@@ -642,7 +658,8 @@ first-stamps a contents early = record {
   over = λ q h. omega arith;
   gone = λ path child c none. omega arith;
   elders = λ path q h c. omega arith;
-  old = λ q h. let e : a.clock ≡ q.clock = ap (λ (z : TimedPart). z.clock) (only a q h) in omega arith;
+  old = λ q h. let e : a.clock ≡ q.clock = ap (λ (z : TimedPart). z.clock) (only a q h) in omega
+      arith;
   free = λ m r k h. absurd (has-none m h);
   held = λ m r q h. absurd (has-none m h);
   keeps = λ k q h. ap (λ (z : TimedPart). z.keeps) (sym (only a q h)) ∙ k;

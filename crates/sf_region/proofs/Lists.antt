@@ -90,7 +90,8 @@ at-has {A} (x ∷ l) zero a e = subst (λ (z : A). Contains (x ∷ l) z) (some-i
 at-has (x ∷ l) (suc j) a e = has-later x a l (at-has l j a e)
 
 -- another thing of a list stands before or after that place
-pub others-at : {A : Type 0} (l : List A) (i : ℕ) (a : A) (e : get_elem? l i ≡ some a) (j : ℕ) (u : A)
+pub others-at : {A : Type 0} (l : List A) (i : ℕ) (a : A) (e : get_elem? l i ≡ some a) (j : ℕ) (u
+    : A)
     → j ≢ i → get_elem? l j ≡ some u
     → Contains ((cut l i a e).before ++ (cut l i a e).after) u
 unfolding cut

@@ -1,5 +1,6 @@
 -- What marked events lead to, and one event more.
--- Names: `makes-LAW`, `numbered-LAW`; `history-LAW` makes a history longer; `task-LAW` speaks of the
+-- Names: `makes-LAW`, `numbered-LAW`; `history-LAW` makes a history longer; `task-LAW` speaks of
+-- the
 -- tasks of parts.
 use Rattle.std.specs.Prelude.{◌≡◌, List, [], ◌∷◌, ◌++◌, map, Some, None, Contains}
 use Rattle.std.specs.Option.{option_map}
@@ -90,7 +91,8 @@ task-from p before after a contents c d event frames w own stand s =
     (whole-focus before after a contents c w).tasks stand))
 
 -- what one of the maps has, their union has
-pub union-has : {A K X : Type 0} (f : A → Map K X) (xs : List A) (w : Map K X) (a : A) (key : K) (x : X)
+pub union-has : {A K X : Type 0} (f : A → Map K X) (xs : List A) (w : Map K X) (a : A) (key : K)
+    (x : X)
     → IsUnion w (map f xs) → Contains xs a → f a key ≡ Some x → w key ≡ Some x
 union-has f [] w a key x u (k, less, e) h = absurd (omega Rattle.std.proofs.Common.arith)
 union-has {A} f (b ∷ xs) w a key x (others, s, u) c h = ⊎_elim

@@ -186,7 +186,8 @@ module _ (first : TimedPart) (marks : List Mark) (before after : List TimedPart)
         free = free;
         held = λ k r q h x c there. ⊎_elim
             (λ (e : b ≡ q). let y : b.clock ≡ q.clock = ap (λ (z : TimedPart). z.clock) e in
-            ⊎_elim (λ i. let z = inside k r i x (ap (λ (w : TimedPart). w.part.holds r) e ∙ there) in
+            ⊎_elim (λ i. let z = inside k r i x (ap (λ (w : TimedPart). w.part.holds r) e ∙ there)
+            in
             omega arith)
             (λ (f : m ≡ k). let z : n ≡ k.stamp = ap (λ (w : Mark). w.stamp) f in omega arith)
             (Contains-push_cases marks m k h))
@@ -195,6 +196,7 @@ module _ (first : TimedPart) (marks : List Mark) (before after : List TimedPart)
             (subst (λ (w : Mark). Touches r w.kind) (sym f) x) there))
             (Contains-push_cases marks m k h)) (has-focus before after b q c);
         keeps = λ k q h. ⊎_elim
-            (λ (e : b ≡ q). ap (λ (z : TimedPart). z.keeps) (sym e) ∙ (keeps ∙ st.keeps k a was-there))
+            (λ (e : b ≡ q). ap (λ (z : TimedPart). z.keeps) (sym e) ∙ (keeps ∙ st.keeps k a
+            was-there))
             (λ i. st.keeps k q (old-part q i)) (has-focus before after b q h);
       }

@@ -1,5 +1,6 @@
 -- Misses have their places in the list of events.
--- Names: `places-LAW`; `act-LAW` and `advance-LAW` of what events leave of a task; `KIND-waits` of a
+-- Names: `places-LAW`; `act-LAW` and `advance-LAW` of what events leave of a task; `KIND-waits`
+-- of a
 -- view after that kind of step.
 use Rattle.std.specs.Prelude.{◌≡◌, ◌≢◌, ◌⊎◌, ◌==◌, ◌+◌, ◌<◌, ◌≤◌, ℕ, zero, suc, cond, Bool, true, false, List, [], ◌∷◌, ◌++◌, map, take, length, slice_index, Option, Some, None, Contains, flat_map}
 use Rattle.std.proofs.Common.{set, sym, ap, ◌∙◌, refl, subst, inl, inr, ⊎_elim, arith, append-nil, eq-eqb, ne_eqb}
@@ -187,7 +188,8 @@ has-flat {A} {B} f (z ∷ l) x y h i = ⊎_elim
     (subst (λ (w : A). Contains (f w) y) (sym e) i))
     (λ k. Contains-append_right (f z) (flat_map f l) y (has-flat f l x y k i)) (has-cases z x l h)
 
-has-mapped : {A B : Type 0} (f : A → B) (l : List A) (x : A) → Contains l x → Contains (map f l) (f x)
+has-mapped : {A B : Type 0} (f : A → B) (l : List A) (x : A) → Contains l x → Contains (map f l)
+    (f x)
 has-mapped f [] x h = absurd (has-none x h)
 has-mapped {A} {B} f (y ∷ l) x h = ⊎_elim
     (λ (e : y ≡ x). subst (λ (z : A). Contains (f y ∷ map f l) (f z)) e (has-first (f y) (map f l)))
@@ -221,10 +223,12 @@ module _ (views : List View) (contents : List WholeContent) (d : Config)
       (λ k. Contains-append_left (parts_in c.before) ((holding v).kids ++ parts_in c.after)
       (part_of u.part) k)
       (λ k. Contains-append_right (parts_in c.before) ((holding v).kids ++ parts_in c.after)
-      (part_of u.part) (Contains-append_right (holding v).kids (parts_in c.after) (part_of u.part) k))
+      (part_of u.part) (Contains-append_right (holding v).kids (parts_in c.after) (part_of u.part)
+      k))
       (Rattle.std.proofs.lemmas.List.Elements.Contains-append_cases (parts_in c.before)
       (parts_in c.after) (part_of u.part)
-      (subst (λ z. Contains z (part_of u.part)) (flat_map-append group_of c.before c.after) rest)) in
+      (subst (λ z. Contains z (part_of u.part)) (flat_map-append group_of c.before c.after) rest))
+      in
       task-apart (part_of v.part).part (before ++ after) contents d (part_of u.part).part
       (whole-focus before after (part_of v.part).part contents d (focused i v e vl))
       (subst (λ z. Contains z (part_of u.part).part)
@@ -332,7 +336,8 @@ module _ (b : Begun) (marks : List Mark) (s : State Slot View) (q : Rule b marks
           → ((o : Path) × (d.common.held r ≡ Some o) × (o ≢ (part_of v.part).part.task))
           ⊎ ((o : Path) × (o ≢ (part_of v.part).part.task) × waits.IsAtRegion d o r)
       other d w j u ne g ul inside x hand = go x hand
-          (subst (λ z. Contains (with_hand z (entered (part_of u.part).part.stand)) r.0) hand inside)
+          (subst (λ z. Contains (with_hand z (entered (part_of u.part).part.stand)) r.0) hand
+          inside)
         where
           apart : (part_of u.part).part.task ≢ (part_of v.part).part.task
           apart = views-apart s.views (present q.contents) d w id j v u ne e g live ul
@@ -359,7 +364,8 @@ module _ (b : Begun) (marks : List Mark) (s : State Slot View) (q : Rule b marks
                 (part_of u.part).part.task,
                 apart,
                 (at-region s.views (present q.contents) d w j u g ul r at'.0 at'.1
-                    (subst (λ (z : ResId). StandsAt (part_of u.part).part z at'.0 at'.1) same at'.2)).0,
+                    (subst (λ (z : ResId). StandsAt (part_of u.part).part z at'.0 at'.1) same
+                    at'.2)).0,
               ))
               (λ n. inl (deep n))
               (has-cases k.resource.0 r.0 (entered (part_of u.part).part.stand) i)

@@ -131,7 +131,8 @@ opening_view b = record {
   begun = b;
 }
 
--- MayBegin: with what a table may begin: there is one content for each resource, in their order, and
+-- MayBegin: with what a table may begin: there is one content for each resource, in their order,
+-- and
 -- each is exactly its resource's; the part is of the program and holds no resource; all of it is a
 -- configuration; and no content's stamp is above the part's clock
 pub record MayBegin (b : Begun) : Type 0 where

@@ -26,7 +26,8 @@ abbrev pub IsChild : Path → Path → Type 0
 IsChild parent child = (turn : Turn) × (child ≡ parent ++ turn ∷ [])
 
 -- the order of these two counts, the first being the earlier: both are of one task, or both enter
--- or leave a region of one resource, or the earlier is a fork by the parent of the later one's task,
+-- or leave a region of one resource, or the earlier is a fork by the parent of the later one's
+-- task,
 -- or the later is a join by the parent of the earlier one's task
 abbrev pub Tied : Mark → Mark → Type 0
 Tied m n = (m.event.task ≡ n.event.task)

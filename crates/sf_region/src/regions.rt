@@ -32,7 +32,8 @@ pub struct Regions<'p> {
     home: Vec<Content>,
     ghost room: { (home.items ≡ []) × (table.shared.table_id.slots ≤ vec_capacity home) },
     ghost wide: { table.shared.table_id.words ≡ suc table.shared.table_id.slots },
-    ghost each: { table.shared.table_id.slots ≡ length (program_in (begun_of table.shared.key)).resources },
+    ghost each: { table.shared.table_id.slots
+        ≡ length (program_in (begun_of table.shared.key)).resources },
 }
 
 impl<'p> Model for Regions<'p> {

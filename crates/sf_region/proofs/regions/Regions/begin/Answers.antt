@@ -37,7 +37,8 @@ invariant_of-result-in-Ok c =
     let e = c.in-Ok.ensures.ok.4 in
     let about : Begun = begun_with c.args.p.now.program c.args.part.now c.args.contents.items in (
       ap (λ (m : Me Slot View). m.0.live) e,
-      ap (λ (m : Me Slot View). m.1) e ∙ sym (ap (λ (m : Me Slot View). hollow (taken (holding m.0))) e
+      ap (λ (m : Me Slot View). m.1) e ∙ sym (ap (λ (m : Me Slot View). hollow (taken (holding
+          m.0))) e
           ∙ (ap (λ (z : Part). hollow (entered (part_of z).part.stand)) c.of-2.ensures
           ∙ ap hollow (enters-none about c.requires))),
       c.task-task.ensures.path ∙ sym (ap (λ (m : Me Slot View). (part_of m.0.part).part.task) e

@@ -20,7 +20,8 @@ exchange-requires c = (
 
 pub entry_with-requires : goal.entry_with-requires
 entry_with-requires c =
-    try-some c.args.part.now c.self.inside.table.shared.table_id.slots c.args.r c.seat.inside.seat.me
+    try-some c.args.part.now c.self.inside.table.shared.table_id.slots c.args.r
+    c.seat.inside.seat.me
     c.try_word-found.new.seat.me c.try_word-found.new.seat.me c.try_word-found.result
     c.try_word-found.ensures.tries c.exchange.result c.if-found-eq0.true c.exchange.ensures.2
 
@@ -38,7 +39,8 @@ invariant_of-seat c =
     c.seat.invariant.1 c.requires.may.near in
     let h = try-invariant a slots c.args.r m n l c.try_word-found.result t c.exchange.result hit e.3
     c.seat.invariant.0 deep in
-    let view = try-view a slots c.args.r m n l c.try_word-found.result t c.exchange.result hit e.3 in
+    let view = try-view a slots c.args.r m n l c.try_word-found.result t c.exchange.result hit e.3
+    in
     let w = (try-told a slots c.args.r m n l c.try_word-found.result t c.exchange.result).0 hit in (
       h.0,
       h.1,
