@@ -26,7 +26,10 @@ use examples::EXAMPLES;
 use files::{FILES, set};
 use proofs::{ACCEPTED, CALL_PROOFS, REFUSED, TEXTS};
 use rankings::{RANKED_FILES, RANKINGS};
-use replays::REPLAYED_FILES;
+use replays::{
+    ABSENT_CELLS, AFTER_A_RACE, BAD_LINES, BEFORE_SCHEDULES, FIRST_PAIRS, FIRST_RACES, FIRST_TASKS,
+    NEW_CELLS, NO_EVENTS, NO_LOCATIONS, PARENTS, READERS, REGIONS, REPLAYED_FILES, SKIPPED_LINES,
+};
 use sf_io::{MemShelf, MemSink, OpenGate};
 use std::alloc::Global;
 use std::process::Abort;
@@ -136,8 +139,57 @@ fn resources_are_ranked(rt: HostRuntime) -> Result<(), Fail> {
     are_said(&rt, alloc, &RANKED_FILES)
 }
 
+/// `replay` says what is in the row of its file, entry, state and schedule.
+fn is_replayed<R: Threads + Wait + Sync + Abort>(
+    rt: &R,
+    alloc: Global,
+    row: (&str, &str, &str, &str, &str, u8),
+) -> Result<(), Fail> {
+    let (file, entry, state, schedule, answer, status) = row;
+    let mut shelf = MemShelf::new(alloc);
+    shelf.add("p.sf", file.as_bytes())?;
+    shelf.add("state", state.as_bytes())?;
+    shelf.add("schedule", schedule.as_bytes())?;
+    let words = ["replay", "p.sf", entry, "state", "schedule"];
+    says(rt, alloc, &words, &mut shelf, (answer, status))
+}
+
+/// `replay` says what is in each of the rows.
+fn are_replayed<R: Threads + Wait + Sync + Abort>(
+    rt: &R,
+    alloc: Global,
+    rows: &[(&str, &str, &str, &str, &str, u8)],
+) -> Result<(), Fail> {
+    for row in rows {
+        is_replayed(rt, alloc, *row)?;
+    }
+    Ok(())
+}
+
 #[test]
-fn schedules_are_replayed(rt: HostRuntime) -> Result<(), Fail> {
+fn replays_find_what_is_bad_first(rt: HostRuntime) -> Result<(), Fail> {
+    are_replayed(&rt, rt.alloc(), &FIRST_RACES)?;
+    are_replayed(&rt, rt.alloc(), &AFTER_A_RACE)?;
+    are_replayed(&rt, rt.alloc(), &NO_LOCATIONS)?;
+    are_replayed(&rt, rt.alloc(), &ABSENT_CELLS)?;
+    are_replayed(&rt, rt.alloc(), &FIRST_TASKS)?;
+    are_replayed(&rt, rt.alloc(), &FIRST_PAIRS)?;
+    are_replayed(&rt, rt.alloc(), &READERS)
+}
+
+#[test]
+fn replays_end_at_what_is_no_event(rt: HostRuntime) -> Result<(), Fail> {
+    are_replayed(&rt, rt.alloc(), &PARENTS)?;
+    are_replayed(&rt, rt.alloc(), &NO_EVENTS)?;
+    are_replayed(&rt, rt.alloc(), &NEW_CELLS)?;
+    are_replayed(&rt, rt.alloc(), &REGIONS)
+}
+
+#[test]
+fn schedules_are_read_line_by_line(rt: HostRuntime) -> Result<(), Fail> {
+    are_replayed(&rt, rt.alloc(), &SKIPPED_LINES)?;
+    are_replayed(&rt, rt.alloc(), &BAD_LINES)?;
+    are_replayed(&rt, rt.alloc(), &BEFORE_SCHEDULES)?;
     are_said(&rt, rt.alloc(), &REPLAYED_FILES)
 }
 

@@ -1,9 +1,9 @@
 -- What the fields of a wanted cell met: one more, and what a field has after all of them.
-use Rattle.std.proofs.Common.{◌≡◌, ℕ, ◌+◌, ◌==◌, Bool, true, false, cond, nat_lt, Option, Some, List, [], ◌∷◌, ◌++◌, length, set, refl, sym, ap, ap₂, ◌∙◌, arith}
-use Rattle.std.proofs.lemmas.Bool.Decides.{Decides-eqb}
+use Rattle.std.proofs.Common.{◌≡◌, ℕ, ◌+◌, ◌==◌, Bool, true, false, cond, Option, Some, List, [], ◌∷◌, ◌++◌, length, set, refl, sym, ap, ◌∙◌, subst, arith}
 use Rattle.sf_base.specs.declared.ids.FieldId.{FieldId}
 use Rattle.sf_sym.specs.declared.term.Term.{Term}
 use Rattle.sf_sym.specs.declared.term.Term.TheVariants.{Sym}
+use Rattle.sf_sym.specs.Checked.Lemmas.Updates.{field-found, fields, found, put-elsewhere, put-here}
 use Rattle.sf_sym.specs.Fields.{field_term, put_term}
 use Rattle.sf_consume.specs.declared.meeting.Met.{Met}
 use Rattle.sf_consume.specs.Checked.Fits.{after_changes}
@@ -27,38 +27,17 @@ link_more (x ∷ xs) f next fields =
     link_more xs f (next + 1) (put_term x (Sym next) fields)
     ∙ ap (λ n. put_term f (Sym n) (with_links (next + 1) xs (put_term x (Sym next) fields))) (omega arith)
 
-same-number : (m n k : ℕ) (b c : Bool) → m == n ≡ true → m == k ≡ b → n == k ≡ c → b ≡ c
-same-number m n k b c e f g =
-    sym f ∙ ap (λ i. i == k) ((Decides-eqb m n).0 e) ∙ g
-
 -- a field after one was put
 pub field_put : (g f : FieldId) (u : Term) (fs : List (FieldId × Term))
     → field_term (put_term g u fs) f ≡ cond (g.0 == f.0) (Some u) (field_term fs f)
-field_put g f u [] = refl
-field_put g f u (h ∷ hs) =
-    go (h.0.0 == g.0) (nat_lt g.0 h.0.0) (h.0.0 == f.0) (g.0 == f.0) refl refl refl (field_put g f u hs)
+field_put g f u fs = field-found (put_term g u fs) f ∙ go (g.0 == f.0) refl
   where
-    last : (c d : Bool) → h.0.0 == g.0 ≡ false → h.0.0 == f.0 ≡ c → g.0 == f.0 ≡ d
-        → cond c (Some h.1) (cond d (Some u) (field_term hs f)) ≡ cond d (Some u) (cond c (Some h.1) (field_term hs f))
-    last true true i j k =
-        let same : h.0.0 == g.0 ≡ true = (Decides-eqb h.0.0 g.0).1
-        ((Decides-eqb h.0.0 f.0).0 j ∙ sym ((Decides-eqb g.0 f.0).0 k)) in absurd (cc)
-    last true false i j k = refl
-    last false true i j k = refl
-    last false false i j k = refl
-
-    go : (a b c d : Bool) → h.0.0 == g.0 ≡ a → h.0.0 == f.0 ≡ c → g.0 == f.0 ≡ d
-        → field_term (put_term g u hs) f ≡ cond d (Some u) (field_term hs f)
-        → field_term (cond a ((g, u) ∷ hs) (cond b ((g, u) ∷ h ∷ hs) (h ∷ put_term g u hs))) f
-        ≡ cond d (Some u) (cond c (Some h.1) (field_term hs f))
-    go true b c true i j k r = ap (λ t. cond t (Some u) (field_term hs f)) k
-    go true b c false i j k r =
-        ap (λ t. cond t (Some u) (field_term hs f)) k
-        ∙ sym (ap (λ t. cond t (Some h.1) (field_term hs f)) (same-number h.0.0 g.0 f.0 c false i j k))
-    go false true c d i j k r =
-        ap₂ (λ (s t : Bool). cond s (Some u) (cond t (Some h.1) (field_term hs f))) k j
-    go false false c d i j k r =
-        ap₂ (λ (s : Bool) (o : Option Term). cond s (Some h.1) o) j r ∙ last c d i j k
+    go : (b : Bool) → g.0 == f.0 ≡ b
+        → found fields (put_term g u fs) f ≡ cond b (Some u) (field_term fs f)
+    go true i =
+        subst (λ h. found fields (put_term g u fs) h ≡ Some u) (fields.is g f i)
+        (put-here fields g u fs)
+    go false i = put-elsewhere fields g u fs f i ∙ sym (field-found fs f)
 
 -- what a field has after all links
 pub latest_link_is : (next : ℕ) (links : List FieldId) (fields : List (FieldId × Term)) (f : FieldId)

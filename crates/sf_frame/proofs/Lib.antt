@@ -1,7 +1,9 @@
 pub mod Acts
 pub mod Calls
 pub mod Ended
+pub mod Endings
 pub mod Entries
+pub mod Firsts
 pub mod HeapChanges
 pub mod Moves
 pub mod NextTodo

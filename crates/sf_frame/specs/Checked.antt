@@ -3,9 +3,12 @@
 pub mod Acts
 pub mod Calls
 pub mod Effects
+pub mod Endings
 pub mod Entries
+pub mod Firsts
 pub mod Frames
 pub mod Nexts
 pub mod Plans
+pub mod Resources
 pub mod Spots
 pub mod Todos

@@ -23,7 +23,7 @@ pub(crate) fn room_count(procedure: &Proc) -> u32
 }
 
 /// The frame of a procedure that is the entry, with its whole body to do.
-pub fn entry_frame<'p>(
+pub(crate) fn entry_frame<'p>(
     alloc: Global,
     f: ProcId,
     procedure: &'p Proc,
@@ -48,7 +48,7 @@ pub fn entry_frame<'p>(
 
 /// The frame of the procedure that sets the resources up, with its whole body to do: its slots come
 /// from that index on.
-pub fn init_frame<'p>(
+pub(crate) fn init_frame<'p>(
     alloc: Global,
     n: ProcId,
     procedure: &'p Proc,

@@ -7,7 +7,8 @@
 //! - `frame`: frames. `todo`: what they have still to do. `stack`: the frames of a task.
 //! - `shared`: the cells, the values of variables, and who holds the resources.
 //! - `look`: where values are looked up. `values`: the values of expressions and tests.
-//! - `entry`: the first frames of a run. `calling`: the frames of callees, and their values.
+//! - `entry`: the first frames of a run. `resources`, `first`: where a run begins. `ending`: the values
+//!   of variables that it ends with. `calling`: the frames of callees, and their values.
 //! - `following`: what a stack of frames does next.
 //! - `stamp`: events. `refusal`: why the event of a command is none.
 //! - `act`: what a command does, or why its event is none. `plan`: what that event would make.
@@ -23,13 +24,16 @@ mod applying;
 mod calling;
 mod cells;
 mod effect;
+mod ending;
 mod entry;
+mod first;
 mod following;
 mod frame;
 mod look;
 mod moving;
 mod plan;
 mod refusal;
+mod resources;
 mod rooms;
 mod shared;
 mod spot;
@@ -43,12 +47,14 @@ pub use act::{Act, act_of};
 pub use applying::{apply, edit};
 pub use calling::Callee;
 pub use effect::{Edit, Effect, Opening};
-pub use entry::{entry_frame, init_frame};
+pub use ending::{own_values, parameter_count, shared_values};
+pub use first::{first_shared, first_stack};
 pub use following::{Next, next_of};
 pub use frame::{Frame, Room, Way};
 pub use look::{Both, Look};
 pub use plan::{Plan, plan_command};
 pub use refusal::Refusal;
+pub use resources::variable_count;
 pub use rooms::{close, open};
 pub use shared::Shared;
 pub use spot::Spot;

@@ -2,11 +2,9 @@
 -- Names: `values_LAW` of the values of variables, `ended_LAW` of the entry's task.
 use Rattle.std.specs.declared.alloc.Global.{Global}
 use Rattle.std.specs.Option.{option_map}
-use Rattle.std.specs.Prelude.{◌≡◌, ◌+◌, ◌<◌, ℕ, zero, suc, Vec, Option, Some, None, map, get_or, slice_get, List, [], ◌∷◌, ◌++◌, length, slice_index_or, unwrap_or}
+use Rattle.std.specs.Prelude.{◌≡◌, ◌+◌, ◌<◌, ℕ, zero, suc, Vec, Option, Some, None, map, get_or, slice_get, List, [], ◌∷◌, ◌++◌, length, unwrap_or}
 use Rattle.std.proofs.Common.{sym, ap, ◌∙◌, refl, subst, inl, inr, arith, length-append}
 use Rattle.std.proofs.lemmas.Bool.{cases_lt}
-use Rattle.std.proofs.Math.ListN.{get_or-append}
-use Rattle.std.proofs.Math.Seq.{get_or-append_seam}
 use Rattle.std.proofs.lemmas.List.{length-map}
 use Rattle.std.proofs.lemmas.Option.{get_or_from_slice_get, none-some, same_Some, slice_get-map, slice_get_within}
 use Rattle.sf_base.proofs.Lookup.{get-push_before, get-push_last}
@@ -16,7 +14,7 @@ use Rattle.sf_base.specs.declared.ids.Var.{Var}
 use Rattle.sf_base.specs.declared.ids.Var.TheVariants.{Own, Shared}
 use Rattle.sf_base.specs.declared.value.Value.{Value}
 use Rattle.sf_base.specs.declared.value.Value.TheVariants.{Nil as nil}
-use Rattle.sf_base.specs.HeapStore.{Slot, Store, own, shared}
+use Rattle.sf_base.specs.HeapStore.{Store, own, shared}
 use Rattle.sf_core.specs.Machine.Config.{Config}
 use Rattle.sf_core.specs.Machine.Start.{entry_slot}
 use Rattle.sf_core.specs.Machine.Step.{procedure_at}
@@ -31,32 +29,10 @@ use Rattle.sf_foot.specs.Starting.{HasWidth}
 use Rattle.sf_foot.specs.Variables.{value_of, values_or_none}
 use Rattle.sf_heap.specs.Cells.{Cells, heap_of}
 use Rattle.sf_machine.specs.Ending.{Ends}
-use Rattle.sf_machine.specs.Checked.Resources.{counts_of}
-use Rattle.sf_machine.proofs.Tables.{counts_same}
-use Rattle.sf_machine.specs.Checked.Endings.{AreRows, AreValues}
-
--- no values
-pub values_none : (store : Store) (slot : ℕ → Slot) → AreValues store slot 0 []
-values_none store slot = record { length = refl; at = λ k l. absurd (omega (arith, l)) }
-
--- one value more
-pub values_more : (store : Store) (slot : ℕ → Slot) (n : ℕ) (values new : List Value) (v : Value)
-    → AreValues store slot n values → v ≡ unwrap_or (store (slot n)) nil → new ≡ values ++ v ∷ []
-    → AreValues store slot (n + 1) new
-values_more store slot n values new v h e is = subst (AreValues store slot (n + 1)) (sym is) (record {
-  length = omega (arith, length-append values (v ∷ []), h.length);
-  at = at;
-})
-  where
-    at : (k : ℕ) → k < n + 1 → slice_index_or (values ++ v ∷ []) k nil ≡ unwrap_or (store (slot k)) nil
-    at k l = elim (cases_lt k n) [
-      | inl b ↦ get_or-append values (v ∷ []) nil k (omega (arith, b, h.length)) ∙ h.at k b
-      | inr m ↦
-          let last : k ≡ length values = omega (arith, m, l, h.length) in
-          let same : n ≡ k = omega (arith, m, l) in
-          ap (λ z. slice_index_or (values ++ v ∷ []) z nil) last ∙ get_or-append_seam values v [] nil ∙ e
-          ∙ ap (λ z. unwrap_or (store (slot z)) nil) same
-    ]
+use Rattle.sf_frame.specs.Checked.Endings.{AreValues}
+use Rattle.sf_frame.specs.Checked.Resources.{counts_of}
+use Rattle.sf_frame.proofs.Firsts.{counts_same}
+use Rattle.sf_machine.specs.Checked.Endings.{AreRows}
 
 -- no rows
 pub rows_none : (store : Store) (counts : List ℕ) → AreRows store counts 0 []

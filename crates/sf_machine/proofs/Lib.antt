@@ -1,4 +1,3 @@
-pub mod Beginnings
 pub mod Causes
 pub mod Enabling
 pub mod Endings

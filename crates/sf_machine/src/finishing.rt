@@ -1,24 +1,20 @@
 //! The end of a run.
 
-ghost use Rattle.std.specs.Prelude.{◌≡◌, ◌↔◌, ◌+◌, ◌<◌, [], length, Some, IfOk, IsTrue};
-ghost use Rattle.sf_base.specs.HeapStore.{own, shared};
+ghost use Rattle.std.specs.Prelude.{◌<◌, [], length, IfOk, IsTrue, ◌↔◌};
 ghost use Rattle.sf_core.specs.Machine.Enabled.{HasEnded};
-ghost use Rattle.sf_core.specs.Machine.Step.{procedure_at};
-ghost use Rattle.sf_core.specs.Program.Syntax.{Procedure};
 ghost use Rattle.sf_core.specs.Program.ProgramView.{program_of};
+ghost use Rattle.sf_frame.specs.Checked.Resources.{counts_of};
+ghost use Rattle.sf_frame.specs.Stores.{store_of};
 ghost use Rattle.sf_machine.specs.Configs.{config_of, IsWide};
 ghost use Rattle.sf_machine.specs.Ending.{Ends};
-ghost use Rattle.sf_machine.specs.Checked.Endings.{AreRows, AreValues};
-ghost use Rattle.sf_machine.specs.Checked.Resources.{counts_of};
-ghost use Rattle.sf_frame.specs.Stores.{store_of};
+ghost use Rattle.sf_machine.specs.Checked.Endings.{AreRows};
 
 use crate::config::Config;
-use crate::resources::variable_count;
 use crate::task::Task;
 use sf_base::{ProcId, ResId, Value};
 use sf_core::Program;
 use sf_foot::{Finish, Vars};
-use sf_frame::{Shared, Spot, Store};
+use sf_frame::{Shared, Store, own_values, parameter_count, shared_values, variable_count};
 use std::alloc::{AllocError, Global};
 
 impl<'p> Config<'p> {
@@ -54,16 +50,6 @@ impl<'p> Config<'p> {
     }
 }
 
-/// How many references and values a procedure has.
-fn parameter_count(p: &Program, f: ProcId) -> u32
-    requires { f.0 < length p.now.procedures.items }
-    ensures { (g : Procedure) → procedure_at (program_of p.now) f ≡ Some g
-        → result ≡ g.references + g.values }
-{
-    let procedure = p.proc(f);
-    procedure.references + procedure.values
-}
-
 /// The values of the variables of each resource.
 fn values_of_resources(
     alloc: Global,
@@ -80,32 +66,4 @@ fn values_of_resources(
         rows.push(values)?;
     }
     Ok(rows)
-}
-
-/// The values of the entry's first variables.
-fn own_values(alloc: Global, store: &Store, count: u32) -> Result<Vec<Value>, AllocError>
-    ensures { IfOk result (λ values.
-        AreValues (store_of store.now) (λ k. own 0 k) count values.items) }
-{
-    let mut values = Vec::with_capacity(alloc, count as usize)?;
-    for i in 0..count {
-        values.push(store.get(Spot::Own(0, i as u64)))?;
-    }
-    Ok(values)
-}
-
-/// The values of the first variables of a resource.
-fn shared_values(
-    alloc: Global,
-    store: &Store,
-    r: ResId,
-    count: u32,
-) -> Result<Vec<Value>, AllocError>
-    ensures { IfOk result (λ values. AreValues (store_of store.now) (shared r) count values.items) }
-{
-    let mut values = Vec::with_capacity(alloc, count as usize)?;
-    for i in 0..count {
-        values.push(store.get(Spot::Shared(r, i)))?;
-    }
-    Ok(values)
 }

@@ -4,7 +4,7 @@
 //! - `task`: the tree of tasks, and what an event makes of one of them.
 //! - `following`: what a task does next.
 //! - `config`: configurations.
-//! - `resources`, `beginning`: the configuration in which a procedure starts.
+//! - `beginning`: the configuration in which a procedure starts.
 //! - `accessed`, `noting`, `accessing`: what the next step of a task reads and writes.
 //! - `listing`: the paths of all tasks. `missing`: where the next step of a task finds no cell.
 //! - `event`: events, and what a step answers.
@@ -33,7 +33,6 @@ mod missing;
 mod noting;
 mod performing;
 mod plan;
-mod resources;
 mod stepping;
 mod task;
 

@@ -36,13 +36,14 @@ use Rattle.sf_part.specs.declared.part.Part.{Part as CodePart}
 use Rattle.sf_part.specs.declared.stand.Stand.{Stand as CodeStand}
 use Rattle.sf_part.specs.declared.stand.Stand.TheVariants.{Runs as runs_frames, Waits, Over}
 use Rattle.sf_part.specs.Entry.{MayEnter}
-use Rattle.sf_part.specs.Of.{FramesAreOf, IsOf, StandIsOf, frames_in}
+use Rattle.sf_part.specs.Of.{AreInOrder, FramesAreOf, IsOf, StandIsOf, frames_in}
 use Rattle.sf_part.specs.PartView.{IsPartOf, part_of}
 use Rattle.sf_part.specs.Stands.{stand_in}
 use Rattle.sf_part.specs.Timed.{TimedPart}
 use Rattle.sf_part.specs.Steps.{Enters, HasInHand, common_of as part_common}
 use Rattle.sf_part.proofs.Entries.{enter-frames, enter-slots, next-shape}
 use Rattle.sf_part.proofs.Made.{part-common}
+use Rattle.sf_part.proofs.Orders.{order-enter}
 use Rattle.sf_part.proofs.Supplies.{one_if}
 
 -- a fact about what came well
@@ -228,6 +229,9 @@ module _ (p : Program) (formed : IsFormed p) (a b : CodePart) (k : Content) (num
           s.fixed s.place s.test s.body s.rest s.below frames_are);
       inside = λ q. times-regions p q (frames_in (part_of b).part.stand)
           ∙ ap (λ z. regions p q (frames_in z)) now ∙ inside-after q;
+      order = subst (λ z. AreInOrder p (frames_in z)) (sym now)
+          (order-enter p (common_of a.shared).store s.fixed s.place k.resource s.test s.body s.rest
+          s.below frames_are.0 (subst (λ z. AreInOrder p (frames_in z)) s.stand of.is.order));
     };
     wide = wide;
     blank = made.blank ∙ of.blank;

@@ -26,12 +26,12 @@ use Rattle.sf_part.proofs.Supplies.{count-cons, count-contains, one_if, times}
 use Rattle.sf_part.proofs.Trees.{entry}
 
 -- a map is the union of itself alone
-union-alone : {K X : Type 0} (w u : Map K X) → w ≡ u → IsUnion w (u ∷ [])
+pub union-alone : {K X : Type 0} (w u : Map K X) → w ≡ u → IsUnion w (u ∷ [])
 union-alone w u e = subst (λ z. IsUnion z (u ∷ [])) (sym e)
     (empty_map, splits-empty_right empty-holds, empty-holds)
 
 -- Units from a base on
-units-low : (n base count : ℕ) → n < base → times n (units base count) ≡ 0
+pub units-low : (n base count : ℕ) → n < base → times n (units base count) ≡ 0
 units-low n base zero l = refl
 units-low n base (suc count) l =
     let s = count-cons n base (units (suc base) count) in
@@ -41,7 +41,7 @@ units-low n base (suc count) l =
       | inr t ↦ let o : one_if (base == n) ≡ 0 = ap one_if t.0 in omega arith
     ]
 
-units-once : (n base count : ℕ) → times n (units base count) ≤ 1
+pub units-once : (n base count : ℕ) → times n (units base count) ≤ 1
 units-once n base zero = omega arith
 units-once n base (suc count) =
     let s = count-cons n base (units (suc base) count) in

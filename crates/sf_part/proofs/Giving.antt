@@ -5,7 +5,6 @@ use Rattle.std.specs.List.{slice_get}
 use Rattle.std.proofs.Common.{true≢false, sym, ap, ◌∙◌, refl, subst}
 use Rattle.std.proofs.lemmas.Option.{same_Some}
 use Rattle.sf_base.proofs.MapSplits.{map-same, splits-cancel_right, splits-comm, splits-has_right}
-use Rattle.sf_base.specs.declared.value.Value.{Value}
 use Rattle.sf_base.specs.declared.value.Value.TheVariants.{Nil as nil}
 use Rattle.sf_base.specs.HeapStore.{Slot, Splits, Store}
 use Rattle.sf_core.specs.Assertions.Sat.{Sat}
@@ -16,9 +15,9 @@ use Rattle.sf_core.proofs.Assertions.Determined.{determined-precise}
 use Rattle.sf_part.specs.Checked.LawsOfGiving.{GivenContentsAreOne}
 use Rattle.sf_part.specs.Given.{is_variable_of}
 
--- parts of one store that have the same slots have the same values
-pub given-same : (o q whole : Option Value) → is_some o ≡ is_some q
-    → ((v : Value) → o ≡ Some v → whole ≡ Some v) → ((v : Value) → q ≡ Some v → whole ≡ Some v)
+-- parts of one map that have the same keys have the same there
+pub given-same : {X : Type 0} (o q whole : Option X) → is_some o ≡ is_some q
+    → ((v : X) → o ≡ Some v → whole ≡ Some v) → ((v : X) → q ≡ Some v → whole ≡ Some v)
     → o ≡ q
 given-same None None whole e f g = refl
 given-same None (Some w) whole e f g = absurd (true≢false (sym e))

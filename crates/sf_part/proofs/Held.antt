@@ -1,6 +1,6 @@
 -- What a part holds, as it is told of a part and as the machine's laws tell it of a task.
 -- Names: `times-LAW` of how often a resource is held.
-use Rattle.std.proofs.Common.{◌≡◌, ℕ, ◌+◌, ◌==◌, cond, List, [], ◌∷◌, refl, ap}
+use Rattle.std.proofs.Common.{◌≡◌, ◌+◌, ◌==◌, cond, List, [], ◌∷◌, refl, ap}
 use Rattle.sf_base.specs.declared.ids.ResId.{ResId}
 use Rattle.sf_core.specs.Checked.Machine.InOrder.{exits, regions, throughout}
 use Rattle.sf_core.specs.Machine.Config.{Item, command, leave, Frame}

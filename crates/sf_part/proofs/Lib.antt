@@ -2,6 +2,15 @@ pub mod Ranges
 pub mod Occur
 pub mod Sites
 pub mod Owned
+pub mod Orders
+pub mod Unheld
+pub mod Spared
+pub mod Exits
+pub mod GivenUp
+pub mod Rows
+pub mod Footprints
+pub mod Handed
+pub mod HandedOut
 pub mod Ready
 pub mod Planned
 pub mod Returning
@@ -22,6 +31,8 @@ pub mod Forks
 pub mod Numbers
 pub mod Firsts
 pub mod Times
+pub mod Parting
+pub mod Begun
 pub mod Performed
 pub mod Held
 pub mod Made

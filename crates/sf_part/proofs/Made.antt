@@ -23,11 +23,12 @@ use Rattle.sf_part.specs.Checked.Stepping.{ActsLocally, IsPerformed, acted, own_
 use Rattle.sf_part.specs.declared.part.Part.{Part}
 use Rattle.sf_part.specs.declared.stand.Stand.{Stand as CodeStand}
 use Rattle.sf_part.specs.declared.stand.Stand.TheVariants.{Runs as runs_frames, Waits, Over}
-use Rattle.sf_part.specs.Of.{FramesAreOf, StandIsOf, frames_in}
+use Rattle.sf_part.specs.Of.{AreInOrder, FramesAreOf, StandIsOf, frames_in}
 use Rattle.sf_part.specs.PartView.{IsPartOf, part_of}
 use Rattle.sf_part.specs.Stands.{stand_in}
 use Rattle.sf_part.specs.Steps.{IsPrivate, Private, common_of as part_common}
 use Rattle.sf_part.proofs.Beside.{takes-one}
+use Rattle.sf_part.proofs.Orders.{order-private}
 
 -- what a part has and holds is what the code has of it
 at-holder : (o : Option Path) (task : Path) → ((holder : Path) → o ≡ Some holder → holder ≡ task)
@@ -115,6 +116,14 @@ module _ (p : Program) (a b : Part) (number : ℕ) (effect : Effect) (change : C
               ∙ sym (times-regions p r (frames_in (part_of a).part.stand)) ∙ of.is.inside r
               ∙ ap (λ (f : ResId → Option Path). cond (is_some (f r)) 1 0)
               (sym (ap (λ (z : Common). z.held) made.common ∙ (acts.own).held));
+          order =
+              let o = order-private p (own_event a number) (common_of a.shared)
+              (acted a number effect) frames (runs (moved change frames)) acts.private
+              (subst (StandIsOf p (common_of a.shared).store) stand of.is.stands)
+              (subst (λ z. AreInOrder p (frames_in z)) stand of.is.order) acts.steps in
+              let same : o.frames ≡ moved change frames = let e = o.is in cc in
+              subst (λ z. AreInOrder p (frames_in z)) (sym now)
+              (subst (AreInOrder p) same o.order);
         };
         wide = width (length p.fields) (ap length of.blank ∙ length-replicate (length p.fields) nil)
             of.wide;

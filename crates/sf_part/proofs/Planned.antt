@@ -109,6 +109,18 @@ pub units-left : (supply : List Range) (number : ℕ)
     → numbers supply ≢ []
 units-left supply number units none = absurd (let h = sym units ∙ none in cc)
 
+-- without a number such a command is not done
+pub own-unable : (p : Program) (a : Part) (f : Fixed) (below : List Frame) (c : Command)
+    (rest : List Item) → IsLocal c → numbers a.supply ≡ []
+    → PlansOf p a (frames_with f (command c ∷ rest) below) (Says Spent)
+own-unable p a f below c rest l none = (
+  (λ e. absurd (cc)),
+  (
+    record { going = not-ended a.task f (command c) rest below; private = l },
+    none,
+  ),
+)
+
 module _ (p : Program) (formed : IsFormed p) (a : Part) (keeps : Keeps (part_of a))
     (of : IsPartOf p a)
     (number : ℕ) (units : numbers a.supply ≡ number ∷ drop 1 (numbers a.supply)) where
@@ -139,11 +151,6 @@ module _ (p : Program) (formed : IsFormed p) (a : Part) (keeps : Keeps (part_of 
     -- it goes on by itself
     own-goes : GoesOn p (part_of a) (frames_with f (command c ∷ rest) below)
     own-goes = record { going = not-ended a.task f (command c) rest below; private = l }
-
-    -- without a number it can't
-    pub own-spent : numbers a.supply ≡ []
-        → PlansOf p a (frames_with f (command c ∷ rest) below) (Says Spent)
-    own-spent none = ((λ e. absurd (cc)), (own-goes, none))
 
     -- why its event is none
     pub own-missing : (why : Refusal) → PlansCommand p (own_event a number) (common_of a.shared) f

@@ -5,9 +5,14 @@ pub mod LawsOfTime
 pub mod LawsOfWhole
 pub mod LawsOfGiving
 pub mod Examples
+pub mod Parting
 pub mod Ranges
 pub mod Standing
 pub mod KeepsIsProp
 pub mod Meeting
 pub mod Stepping
 pub mod Taking
+pub mod Sharing
+pub mod Giving
+pub mod Handing
+pub mod Setup

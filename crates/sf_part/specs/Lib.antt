@@ -2,6 +2,8 @@ pub mod Timed
 pub mod Steps
 pub mod Supplied
 pub mod First
+pub mod Starts
+pub mod Ends
 pub mod Given
 pub mod Of
 pub mod Lent
@@ -11,6 +13,7 @@ pub mod Answers
 pub mod Contents
 pub mod Guards
 pub mod Entry
+pub mod Leaving
 pub mod Parts
 pub mod PartView
 pub mod Checked

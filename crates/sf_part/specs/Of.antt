@@ -1,19 +1,23 @@
 -- Of: that a part is of a program: what its frames have still to do stands in bodies of the
--- program, it
--- has the variables of its frames, and it holds the resources of the regions that it is inside of.
+-- program, they have called one another, it has the variables of its frames, and it holds the
+-- resources of the regions that it is inside of.
 -- O'Hearn (2007): what a task owns is enough for it to go on alone.
-use Rattle.std.specs.Prelude.{◌≡◌, ◌⊎◌, ◌+◌, ◌==◌, ◌&&◌, ltb, ◌<◌, ℕ, true, cond, List, [], ◌∷◌, ◌++◌, length, Some, None, Contains, is_some}
+use Rattle.std.specs.Prelude.{◌≡◌, ◌⊎◌, ◌+◌, ◌==◌, ◌&&◌, ltb, ◌<◌, ℕ, true, false, cond, List, [], ◌∷◌, ◌++◌, length, Some, None, Contains, is_some}
 use Rattle.std.specs.List.{slice_get}
 use Rattle.sf_base.specs.declared.ids.ResId.{ResId}
 use Rattle.sf_base.specs.declared.ids.Var.{Var}
 use Rattle.sf_base.specs.declared.ids.Var.TheVariants.{Own, Shared}
 use Rattle.sf_base.specs.HeapStore.{Slot, Store, shared}
-use Rattle.sf_calls.specs.Conditions.{Free}
+use Rattle.sf_calls.specs.Conditions.{Calls, Enters, Free, Has}
+use Rattle.sf_calls.specs.Outside.{IsAmong, Makes}
+use Rattle.sf_calls.specs.Reaches.{Reaches}
+use Rattle.sf_base.specs.declared.ids.ProcId.{ProcId}
 use Rattle.sf_core.specs.Machine.Config.{Item, command, leave, Room, in_room, Frame}
+use Rattle.sf_core.specs.Machine.HasThroughout.{HasThroughout}
 use Rattle.sf_core.specs.Machine.Step.{procedure_at}
 use Rattle.sf_core.specs.Machine.Whole.{Stand, running, waiting, Part}
 use Rattle.sf_core.specs.Program.Formed.{variable_count}
-use Rattle.sf_core.specs.Program.Heads.{Site, sites, inner_sites}
+use Rattle.sf_core.specs.Program.Heads.{Site, Somewhere, sites, inner_sites}
 use Rattle.sf_core.specs.Program.Init.{sets_up}
 use Rattle.sf_core.specs.Program.Syntax.{Procedure, Program}
 
@@ -58,14 +62,50 @@ FramesAreOf p store [] = Unit {0}
 FramesAreOf p store (f ∷ below) = FrameIsOf p store f
     × FramesAreOf p (without f.fixed.room store) below
 
+-- a call in the body of g passes that variable to f, as a reference
+abbrev pub Passes : Program → Var → (g f : ProcId) → Type 0
+Passes p x g f = Has p (λ h. Somewhere (λ s. Makes s.command
+    (λ d. (d.callee ≡ f) × IsAmong x d.references)) h.body) g
+
+-- f is passed it so, or is called by one that is
+abbrev pub IsPassed : Program → Var → ProcId → Type 0
+IsPassed p x = Reaches (λ f. (g : ProcId) × Passes p x g f) (λ f g. Calls p None g f)
+
+-- a frame is inside of regions that its procedure's body has, and an own variable of it names one
+-- of a resource only where a call has passed that one
+pub record HasEntered (p : Program) (f : Frame) : Type 0 where
+  pub regions : (r : ResId) → Contains (inside f.todo) r → Enters p r f.fixed.procedure
+  pub passed : (n : ℕ) (r : ResId) (i : ℕ) → f.fixed.slots (Own n) ≡ shared r i
+      → IsPassed p (Shared r i) f.fixed.procedure
+
+-- the frame's procedure holds no resource through its body, and no own variable of it names one of
+-- a resource's
+pub record HasNothing (p : Program) (f : Frame) : Type 0 where
+  pub holds : (r : ResId) → HasThroughout p f.fixed.procedure r → ⊥
+  pub names : (n : ℕ) (r : ResId) (i : ℕ) → f.fixed.slots (Own n) ≡ shared r i → ⊥
+
+-- the frame next below one of that procedure called it; or that procedure sets the resources up,
+-- and below it is the entry's frame alone, which has nothing of them. It isn't that one which has
+-- none below
+abbrev pub IsAbove : Program → ProcId → List Frame → Type 0
+IsAbove p f [] = sets_up p f ≡ false
+IsAbove p f (g ∷ below) = Calls p None g.fixed.procedure f
+    ⊎ ((sets_up p f ≡ true) × HasNothing p g × (below ≡ []))
+
+-- so it is with each of the frames
+abbrev pub AreInOrder : Program → List Frame → Type 0
+AreInOrder p [] = Unit {0}
+AreInOrder p (f ∷ below) = HasEntered p f × IsAbove p f.fixed.procedure below
+    × AreInOrder p below
+
 -- how often there is a region of the resource still to be left
 abbrev pub times_left : ResId → List Item → ℕ
 times_left r [] = 0
 times_left r (command c ∷ todo) = times_left r todo
 times_left r (leave q ∷ todo) = cond (q.0 == r.0) 1 0 + times_left r todo
 
--- how often a task with these frames has the resource: by the regions that it is inside of, and once
--- in a frame that sets all of them up
+-- how often a task with these frames has the resource: by the regions that it is inside of, and
+-- once in a frame that sets all of them up
 abbrev pub times_held : Program → ResId → List Frame → ℕ
 times_held p r [] = 0
 times_held p r (f ∷ frames) =
@@ -90,3 +130,5 @@ pub record IsOf (p : Program) (a : Part) : Type 0 where
   pub stands : StandIsOf p a.store a.stand
   -- it holds a resource exactly while it is inside of one region of it, or sets all of them up
   pub inside : (r : ResId) → times_held p r (frames_in a.stand) ≡ cond (a.holds r) 1 0
+  -- its frames have called one another, and entered what they are inside of
+  pub order : AreInOrder p (frames_in a.stand)

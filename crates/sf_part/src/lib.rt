@@ -2,23 +2,34 @@
 //! belongs to.
 //!
 //! - `part`: what a task has, owned; `stand` and `supply`: where it stands, and its units.
-//! - `log`: the events it made, stamped by its clock.
+//! - `log` and `clock`: the events it made, stamped by its clock.
 //! - `local` and `stepping`: the events that are its own affair, and what it answers for the others.
+//! - `first`: the part with which a run begins, and the contents beside it.
+//! - `ending`: what a run ends with.
 //! - `content`, `guard`, `spots` and `entering`: the entry of a region with its resource's content.
+//! - `share` and `leaving`: the exit, which gives up just that; `setup`: the return that sets all
+//!   resources up, which gives up what each has. `fault`: why they may not.
 //! - `laws`: the law of parts.
 //! - `time`: clocks, stamps and logs.
 //! - `whole`: what a part tells of the whole.
 //! - `examples`: one event of each kind, and what there isn't.
 #![tactic(auto)]
 
+mod clock;
 mod content;
+mod ending;
 mod entering;
 pub mod examples;
+mod fault;
+mod first;
 mod guard;
 pub mod laws;
+mod leaving;
 mod local;
 mod log;
 mod part;
+mod setup;
+mod share;
 mod spots;
 mod stand;
 mod stepping;
@@ -27,6 +38,7 @@ pub mod time;
 pub mod whole;
 
 pub use content::Content;
+pub use fault::PartFault;
 pub use local::Local;
-pub use log::Stamped;
+pub use log::{Log, Stamped};
 pub use part::Part;

@@ -12,3 +12,11 @@ pub struct Stamped {
     /// The number of the event.
     pub number: u64,
 }
+
+/// A log: an entry for each event that was noted. Those of one task are in the order of their
+/// stamps; those of its children come where it joined them, the left one's first.
+#[derive(Debug, Drop)]
+pub struct Log {
+    /// The entries.
+    pub entries: Vec<Stamped>,
+}

@@ -35,7 +35,8 @@ pub struct Part<'p> {
 impl<'p> Part<'p> {
     ghost use Rattle.std.specs.Prelude.{◌≡◌, ◌≢◌, ◌↔◌, [], IsTrue, OnOk};
     ghost use Rattle.sf_core.specs.Machine.Whole.{numbers};
-    ghost use Rattle.sf_part.specs.PartView.{HasLogRoom, part_of};
+    ghost use Rattle.sf_core.specs.Program.Syntax.{Program as P};
+    ghost use Rattle.sf_part.specs.PartView.{HasLogRoom, IsPartOf, part_of};
 
     /// The path of its task.
     pub fn task(&self) -> TaskPath
@@ -65,6 +66,7 @@ impl<'p> Part<'p> {
     pub fn make_room(&mut self) -> Result<(), AllocError>
         ensures room { OnOk result (HasLogRoom self.new) }
         ensures same { part_of self.new ≡ part_of self.old }
+        ensures of { (p : P) → IsPartOf p self.old → IsPartOf p self.new }
     {
         if self.keeps {
             self.log.reserve(1)?;

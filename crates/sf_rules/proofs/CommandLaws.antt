@@ -153,7 +153,7 @@ module _ (s : State) (c : Command) (rest : List Item) where
       values = w;
       same = λ m d. refl;
       holds = record {
-        vars = set-agrees w e x v s.vars t order is h.vars;
+        vars = set-agrees w e x v s.vars t is h.vars;
         apart = h.apart;
         disjoint = h.disjoint;
         there = beside-none w rest free after (star-drop_right h.there);
@@ -277,7 +277,7 @@ mutate_follows_event s rest left p root field value a shape row =
         let is = known-value w e s.vars h.vars value shape.reads.1 also_known in
         let cell : Cell = put_field o.here field.0 (value_at e value) in
         let fits = subst (λ z. HasFields (term_value w) (put_term field u fields) (put_field o.here field.0 z)) is
-        (put-written (term_value w) field u fields o.here (cell-order s.atoms a t fields shape.fields at) o.has) in
+        (put-written (term_value w) field u fields o.here o.has) in
         found-cell o shape.reads.0 known
         (change-holds s c rest w e free taken (command-form s c rest shape).0 h o.location o.here (Some cell) atoms o.there
         (atoms-in_place w s.links s.atoms a (Points t fields) t (put_term field u fields)
@@ -321,7 +321,7 @@ new_follows_event s rest left p x shape row =
       values = v;
       same = same;
       holds = record {
-        vars = set-agrees v e x.var (loc location) s.vars (Sym n) shape.vars (sym is)
+        vars = set-agrees v e x.var (loc location) s.vars (Sym n) (sym is)
             (vars-stay w v goal b same e free taken h);
         apart = apart-stays w v goal b same e free taken h (Sym n) location is;
         disjoint = (cell-new_left location (Some cell) (splits-union h.disjoint)
@@ -420,7 +420,7 @@ look-fresh s rest left p x root field a shape fields found e =
       values = v;
       same = same;
       holds = record {
-        vars = set-agrees v e x.var y s.vars (Sym n) shape.vars (sym is)
+        vars = set-agrees v e x.var y s.vars (Sym n) (sym is)
             (vars-stay w v goal b same e free taken h);
         apart = pairs-other_values w v s.apart
             (pairs-weaker (IsBelow n) (Same w v) stays s.apart b.state.apart) h.apart;

@@ -30,7 +30,7 @@ use Rattle.sf_rules.specs.Checked.Lemmas.FirstVariables.{symbols-order}
 use Rattle.sf_rules.specs.Checked.Lemmas.Forms.{adding-assuming, body-assuming, body-run, form-command, items-formed_run, taking-showing}
 use Rattle.sf_rules.specs.Checked.Lemmas.StateChildren.{AllStay, absurd-stays, add-stays, choice-stays, drop-stays, force-stays, split-stays, unroll-stays}
 use Rattle.sf_rules.specs.Checked.Lemmas.Subtracting.{Lists, chosen-lists, subtract-lists}
-use Rattle.sf_rules.specs.Checked.Lemmas.VariableTerms.{all-order, remove_all-order}
+use Rattle.sf_sym.specs.Checked.Lemmas.Updates.{remove_vars-order, set_vars-order}
 use Rattle.sf_rules.specs.Checked.RowCases.{Rows, RowsHaveCases, by_absurd, by_add, by_again, by_around, by_assign, by_call, by_choice, by_choice_assumed, by_choice_shown, by_dispose, by_drop, by_end, by_enter, by_exit, by_force, by_fork, by_give, by_look, by_loop, by_mutate, by_new, by_return, by_split, by_step, by_unroll, goal_of}
 use Rattle.sf_rules.specs.First.{first_goal, links_of, nils, own_vars, symbols, nil_for, with_held, with_nil}
 use Rattle.sf_rules.specs.Resources.{variables_of, variables_from}
@@ -238,7 +238,7 @@ module _ (d : Setting) (s : State) (links : s.links ≡ links_of d.program) (res
     give-orderly set removed b e =
         one-left (record s { taken = []; vars = remove_vars removed (set_vars set s.vars) }) rest e
         (record {
-          vars = remove_all-order removed (set_vars set s.vars) (all-order set s.vars h.ordered.vars);
+          vars = remove_vars-order removed (set_vars set s.vars) (set_vars-order set s.vars h.ordered.vars);
           fields = h.ordered.fields;
         })
         h.formed.1 (inl (b, refl))
@@ -295,7 +295,7 @@ module _ (d : Setting) (s : State) (links : s.links ≡ links_of d.program) (res
         let inside = to_run body ++ (exit p r ∷ rest) in
         let tests = to_add_test p to t ++ inside in
         one-left now (to_add p to a ++ tests) e
-        (record { vars = all-order (fresh_for s.next_sym xs) s.vars h.ordered.vars; fields = h.ordered.fields })
+        (record { vars = set_vars-order (fresh_for s.next_sym xs) s.vars h.ordered.vars; fields = h.ordered.fields })
         (to_add-formed s.links p to a tests (stands a m) (to_add_test-formed s.links p to t inside
         (items-formed_run s.links body (exit p r ∷ rest) (tt, h.formed.1))))
         (inl (
@@ -315,7 +315,7 @@ module _ (d : Setting) (s : State) (links : s.links ≡ links_of d.program) (res
         let now = with_fresh xs s in
         let to = term now.vars in
         let a = d.ordered invariant in
-        let order = all-order (fresh_for s.next_sym xs) s.vars h.ordered.vars in
+        let order = set_vars-order (fresh_for s.next_sym xs) s.vars h.ordered.vars in
         let inside = to_run body ++ (again p invariant ∷ []) in
         let tests = to_add_test p to t ++ inside in
         let others = to_add_test p to (negation ENil t) ++ rest in
@@ -550,11 +550,11 @@ first-orderly d f g m = go (is_init g)
     go true =
         first-orderly_in d g (with_nil (flat_map (variables_of d.program) (get_or d.sets.holds f.0 []))
         (first_state (links_of d.program) (own_vars g) (g.references + g.values))) m
-        (all-order (nil_for (flat_map (variables_of d.program) (get_or d.sets.holds f.0 []))) (own_vars g) own)
+        (set_vars-order (nil_for (flat_map (variables_of d.program) (get_or d.sets.holds f.0 []))) (own_vars g) own)
         refl refl refl
     go false =
         first-orderly_in d g (with_fresh (flat_map (variables_of d.program) (get_or d.sets.holds f.0 []))
         (first_state (links_of d.program) (own_vars g) (g.references + g.values))) m
-        (all-order (fresh_for (g.references + g.values)
+        (set_vars-order (fresh_for (g.references + g.values)
         (flat_map (variables_of d.program) (get_or d.sets.holds f.0 []))) (own_vars g) own)
         refl refl refl

@@ -1,3 +1,4 @@
 -- What is checked and need not be believed: laws, worked examples, lemmas, and definitions that only proofs use.
 -- One module for each.
 pub mod Laws
+pub mod Running

@@ -11,6 +11,7 @@
 //! - `states`: starts, why there is none, and what is written.
 //! - `running`: programs, event by event.
 //! - `runs`: runs of one task.
+//! - `parts`: parts of one task, from their beginning to their end.
 #![tactic(auto)]
 
 #[cfg(test)]
@@ -20,6 +21,8 @@ mod gates;
 #[cfg(test)]
 mod heaps;
 pub mod laws;
+#[cfg(test)]
+mod parts;
 #[cfg(test)]
 mod running;
 #[cfg(test)]

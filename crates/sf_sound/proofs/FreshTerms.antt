@@ -14,7 +14,7 @@ use Rattle.sf_base.specs.declared.value.Value.{Value}
 use Rattle.sf_base.specs.Variables.{same_var}
 use Rattle.sf_safe.specs.Checked.Local.{Local, put_variable}
 use Rattle.sf_sound.proofs.Keeping.{or-false}
-use Rattle.sf_rules.specs.Checked.Lemmas.VariableTerms.{set-order}
+use Rattle.sf_sym.specs.Checked.Lemmas.Updates.{set-order}
 use Rattle.sf_sound.specs.Checked.Claims.{put_values}
 use Rattle.sf_sym.specs.Below.{SameBelow}
 use Rattle.sf_sym.specs.declared.term.Term.{Term}
@@ -81,7 +81,7 @@ pub put-agrees : (w : ℕ → Value) (set vs : List (Var × Term)) (l : Local) �
 put-agrees w [] vs l o a = a
 put-agrees w (x ∷ xs) vs l o a =
     put-agrees w xs (set_var x.0 x.1 vs) (put_variable x.0 (term_value w x.1) l) (set-order x.0 x.1 vs o)
-    (set-agrees w l.values x.0 (term_value w x.1) vs x.1 o refl a)
+    (set-agrees w l.values x.0 (term_value w x.1) vs x.1 refl a)
 
 -- so they do where fewer have values
 pub agrees-fewer : (w : ℕ → Value) (e f : Var → Option Value) (vs : List (Var × Term))

@@ -30,7 +30,7 @@ pub level_of-out : {E : Type 0} (l : CodeLevel E)
 level_of-out {E} l = fold_out-Level E (Conjunct E) (Level E) conjunct_step level_step l
 
 -- a points-to is its root and its fields
-conjunct_of-points : (p : Place) (x : Operand Term) (v : Vec (FieldId × Operand Term) Global)
+pub conjunct_of-points : (p : Place) (x : Operand Term) (v : Vec (FieldId × Operand Term) Global)
     → conjunct_of {E = Term} (Points p x v) ≡ points p x v.items
 conjunct_of-points p x v =
     ap (conjunct_of {E = Term}) (sym (rolls-Points p x v))

@@ -37,6 +37,17 @@ pub vec-whole : {X : Type 0} (v : Vec X Global) (ws : List X) → length ws ≡ 
 vec-whole v ws e =
     ap (λ n. refill n v.items ws) v.ok.0 ∙ refill-whole v.items ws e
 
+-- its elements as definitions see them, where each was changed
+pub vec-viewed : {X Y : Type 0} (view : X → Y) (f : Y → Y) (v : Vec X Global) (ws now : List X)
+    → length ws ≡ length now → now ≡ v.items → map view ws ≡ map f (map view now)
+    → map view (with_items v ws).items ≡ map f (map view v.items)
+vec-viewed view f v ws now n is e =
+    ap (map view) (vec-whole v ws (n ∙ ap length is)) ∙ e ∙ ap (λ xs. map f (map view xs)) is
+
+pub vec-mapped : {X : Type 0} (f : X → X) (v : Vec X Global) (ws now : List X) → length ws ≡ length now
+    → now ≡ v.items → ws ≡ map f now → (with_items v ws).items ≡ map f v.items
+vec-mapped f v ws now n is e = vec-whole v ws (n ∙ ap length is) ∙ e ∙ ap (map f) is
+
 -- fields with other terms are in the same order
 after-map : (to : Term → Term) (n : ℕ) (fs : List (FieldId × Term)) → AreAfter n fs
     → AreAfter n (map (λ f. (f.0, to f.1)) fs)

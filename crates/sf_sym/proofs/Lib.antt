@@ -1,3 +1,4 @@
+pub mod AboveSymbols
 pub mod SmallGoals
 pub mod PutTerms
 pub mod Indices

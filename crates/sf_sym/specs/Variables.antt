@@ -1,7 +1,7 @@
 -- How variables get terms in a state and lose them: they are kept in order, own ones before those of resources.
 -- Berdine, Calcagno, O'Hearn, "Symbolic Execution with Separation Logic" (2005), section 4.
-use Rattle.std.specs.Prelude.{ℕ, suc, ◌+◌, ◌==◌, Bool, true, false, ◌&&◌, ◌||◌, IsTrue, cond, nat_lt, List, [], ◌∷◌, length}
-use Rattle.std.specs.List.{AllByRecursion}
+use Rattle.std.specs.Prelude.{ℕ, suc, ◌+◌, ◌==◌, Bool, true, false, not, ◌&&◌, ◌||◌, IsTrue, nat_lt, List, [], ◌∷◌, ◌++◌, length}
+use Rattle.std.specs.List.{AllByRecursion, filter}
 use Rattle.sf_base.specs.declared.ids.Var.{Var}
 use Rattle.sf_base.specs.declared.ids.Var.TheVariants.{Own, Shared}
 use Rattle.sf_base.specs.Variables.{same_var}
@@ -25,21 +25,19 @@ abbrev pub AreInOrder : List (Var × Term) → Type 0
 AreInOrder [] = Unit {0}
 AreInOrder (v ∷ vs) = IsBeforeAll v.0 vs × AreInOrder vs
 
--- the variable has that term from now on
+-- the variable has that term from now on: the variables before it, it, and those after it
 abbrev pub set_var : Var → Term → List (Var × Term) → List (Var × Term)
-set_var x t [] = (x, t) ∷ []
-set_var x t (v ∷ vs) =
-    cond (same_var v.0 x) ((x, t) ∷ vs) (cond (comes_before x v.0) ((x, t) ∷ v ∷ vs) (v ∷ set_var x t vs))
+set_var x t vs =
+    filter (λ v. comes_before v.0 x) vs ++ ((x, t) ∷ filter (λ v. comes_before x v.0) vs)
 
 -- each of the variables has its term from now on, one after the other
 abbrev pub set_vars : List (Var × Term) → List (Var × Term) → List (Var × Term)
 set_vars [] vs = vs
 set_vars (x ∷ xs) vs = set_vars xs (set_var x.0 x.1 vs)
 
--- the variable has no term any more
+-- the variable has no term any more: all others are left
 abbrev pub remove_var : Var → List (Var × Term) → List (Var × Term)
-remove_var x [] = []
-remove_var x (v ∷ vs) = cond (same_var v.0 x) vs (v ∷ remove_var x vs)
+remove_var x vs = filter (λ v. not (same_var v.0 x)) vs
 
 -- none of the variables has a term any more
 abbrev pub remove_vars : List Var → List (Var × Term) → List (Var × Term)

@@ -12,6 +12,7 @@
 //! - `decided`: which terms operands have.
 //! - `empty`: atoms that can only be empty.
 //! - `pending`: conjuncts that are still to be assumed or to be shown.
+//! - `above`: a number above the symbols of conjuncts.
 //! - `goal`: a state, and what is still to do from there.
 //! - `todo`: the items of a goal.
 //! - `copy`: copies of goals.
@@ -23,6 +24,7 @@
 //! - `examples`: examples of small goals.
 #![tactic(auto)]
 
+mod above;
 mod atom;
 mod copy;
 mod decided;

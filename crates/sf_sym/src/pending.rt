@@ -1,11 +1,15 @@
 //! Conjuncts that are still to be assumed or to be shown.
 
-ghost use Rattle.std.specs.Prelude.{◌≡◌, ◌<◌, ◌==◌, ◌∷◌, ◌++◌, [], List, Some, length, set, IfSome, IfNone, IfOk, OnErr, OnOk};
+ghost use Rattle.std.specs.Prelude.{◌≡◌, ◌<◌, ◌≤◌, ◌==◌, ◌∷◌, ◌++◌, [], ℕ, List, None, Some, get_or, length, map, set, IfSome, IfNone, IfOk, OnErr, OnOk};
+ghost use Rattle.std.specs.Option.{option_map};
+ghost use Rattle.sf_sym.specs.Below.{IsBelow};
+ghost use Rattle.sf_sym.specs.Checked.Above.{BindingsBelow};
 ghost use Rattle.sf_core.specs.declared.assertion.Conjunct.{Conjunct as ConjunctOf};
 ghost use Rattle.sf_sym.specs.Equalities.{pending_with, put_for};
 ghost use Rattle.sf_sym.specs.Pending.{pending_of};
 ghost use Rattle.sf_sym.specs.declared.term.Term.{Term as TermOf};
 
+use crate::above::{above_binding, above_bindings, above_conjunct, above_conjuncts, above_term};
 use crate::copy::copy_conjuncts;
 use crate::replace::Replacement;
 use crate::term::Term;
@@ -20,6 +24,11 @@ pub struct Pending {
     // The next one last, so that taking it costs nothing.
     conjuncts: Vec<Conjunct<Term>>,
     bindings: Vec<Option<Term>>,
+    // The existential that was bound last.
+    latest: usize,
+    // A number above all symbols but those of what that existential stands for: another one is
+    // replaced by a look at that alone, as one is that was made for it.
+    above: u64,
 }
 
 impl Model for Pending {
@@ -33,6 +42,10 @@ impl Model for Pending {
     ghost coded = { Prim.hlevel (codes, (conjunct.the_row term.the_row).coded) };
 
     ghost view = { λ s. given_of s.conjuncts.items s.bindings.items };
+
+    ghost use Rattle.sf_sym.specs.Checked.Above.{AreBelow};
+
+    ghost invariant = { λ s. AreBelow s.above s.latest s.conjuncts.items s.bindings.items };
 }
 
 impl Pending {
@@ -42,9 +55,12 @@ impl Pending {
         ensures bindings { result.bindings ≡ bindings.items }
     {
         conjuncts.reverse();
+        let above = above_bindings(above_conjuncts(0, &conjuncts), &bindings);
         Pending {
             conjuncts,
             bindings,
+            latest: 0,
+            above,
         }
     }
 
@@ -78,8 +94,11 @@ impl Pending {
         ensures conjuncts { self.new.conjuncts ≡ self.old.conjuncts }
         ensures bindings { self.new.bindings ≡ set self.old.bindings n (Some t) }
     {
-        if (n as usize) < self.bindings.len() {
-            self.bindings[n as usize] = Some(t);
+        let n = n as usize;
+        if n < self.bindings.len() {
+            self.above = above_latest(self.above, &self.bindings, self.latest);
+            self.latest = n;
+            self.bindings[n] = Some(t);
         }
     }
 
@@ -91,6 +110,7 @@ impl Pending {
         ensures bindings { self.new.bindings ≡ self.old.bindings }
     {
         if self.conjuncts.pop().is_some() {
+            self.above = above_conjunct(self.above, &c);
             self.conjuncts.push_reserved(c);
         }
     }
@@ -116,6 +136,7 @@ impl Pending {
         let Some(c) = self.conjuncts.pop() else {
             unreachable!();
         };
+        self.above = above_conjunct(above_conjunct(self.above, &one), &two);
         self.conjuncts.push_reserved(two);
         self.conjuncts.push_reserved(one);
         Ok(c)
@@ -151,7 +172,9 @@ impl Pending {
         ensures err { OnErr result (self.new ≡ self.old) }
     {
         first.reverse();
+        let above = above_conjuncts(self.above, &first);
         self.conjuncts.append(&mut first)?;
+        self.above = above;
         Ok(())
     }
 
@@ -162,6 +185,8 @@ impl Pending {
         Ok(Pending {
             conjuncts: copy_conjuncts(alloc, &self.conjuncts)?,
             bindings: Vec::from_slice(alloc, &self.bindings)?,
+            latest: self.latest,
+            above: self.above,
         })
     }
 
@@ -169,7 +194,41 @@ impl Pending {
     pub(crate) fn replace(&mut self, r: Replacement)
         ensures { pending_of self.new ≡ pending_with (put_for r.symbol r.by) (pending_of self.old) }
     {
+        if u64::from(r.symbol) < self.above {
+            self.replace_all(r);
+            return;
+        }
+        replace_latest(&mut self.bindings, self.latest, r);
+    }
+
+    /// The same by a look at all.
+    fn replace_all(&mut self, r: Replacement)
+        ensures { pending_of self.new ≡ pending_with (put_for r.symbol r.by) (pending_of self.old) }
+    {
+        self.above = above_latest(above_term(self.above, r.by), &self.bindings, self.latest);
         r.in_conjuncts(&mut self.conjuncts);
         r.in_bindings(&mut self.bindings);
+    }
+}
+
+/// A number that isn't below `least`, and is above the symbol of what that existential stands for,
+/// if it is one.
+fn above_latest(least: u64, bindings: &[Option<Term>], latest: usize) -> u64
+    ensures least { least ≤ result }
+    ensures below { (t : TermOf) → get_or bindings.now latest None ≡ Some t → IsBelow result t }
+{
+    match bindings.get(latest) {
+        Some(binding) => above_binding(least, *binding),
+        None => least,
+    }
+}
+
+/// Replaces a symbol by a term, where at most what that existential stands for has the symbol.
+fn replace_latest(bindings: &mut [Option<Term>], latest: usize, r: Replacement)
+    requires { BindingsBelow r.symbol latest bindings.old }
+    ensures { bindings.new ≡ map (option_map (put_for r.symbol r.by)) bindings.old }
+{
+    if latest < bindings.len() {
+        r.in_binding(&mut bindings[latest]);
     }
 }

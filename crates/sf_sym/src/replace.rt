@@ -114,7 +114,7 @@ impl Replacement {
     }
 
     /// In what an existential stands for.
-    fn in_binding(self, binding: &mut Option<Term>)
+    pub(crate) fn in_binding(self, binding: &mut Option<Term>)
         ensures { binding.new ≡ option_map (put_for self.symbol self.by) binding.old }
     {
         if let Some(t) = binding {

@@ -3,6 +3,7 @@
 ghost use Rattle.std.specs.Prelude.{◌≡◌, ◌+◌, ◌<◌, ◌≤◌, ◌^◌, length, map, position, slice_get, IfOk, IfSome, OnErr, OnOk, vec_capacity, vec_len};
 ghost use Rattle.sf_base.specs.Variables.{same_var};
 ghost use Rattle.sf_sym.specs.Equalities.{put_for};
+ghost use Rattle.sf_sym.specs.Checked.Insertion.{insert_var, insert_vars};
 ghost use Rattle.sf_sym.specs.Checked.VariablePlaces.{is_var, place_of};
 ghost use Rattle.sf_sym.specs.State.{term_at};
 ghost use Rattle.sf_sym.specs.Variables.{AreInOrder, comes_before, fresh_for, remove_var, remove_vars, set_var, set_vars};
@@ -214,7 +215,7 @@ fn is_at(vars: &[(Var, Term)], at: usize, x: Var) -> bool
 /// Sets a variable where there is room for one more.
 fn set_in_room(vars: &mut Vec<(Var, Term)>, x: Var, t: Term)
     requires { vec_len vars.old < vec_capacity vars.old }
-    ensures items { vars.new.items ≡ set_var x t vars.old.items }
+    ensures items { vars.new.items ≡ insert_var x t vars.old.items }
     ensures len { vec_len vars.new ≤ vec_len vars.old + 1 }
     ensures capacity { vec_capacity vars.old ≤ vec_capacity vars.new }
 {
@@ -229,7 +230,7 @@ fn set_in_room(vars: &mut Vec<(Var, Term)>, x: Var, t: Term)
 /// Sets variables, one after the other, where there is room for all.
 fn set_all_in_room(vars: &mut Vec<(Var, Term)>, xs: &[(Var, Term)])
     requires { vec_len vars.old + length xs.now ≤ vec_capacity vars.old }
-    ensures { vars.new.items ≡ set_vars xs.now vars.old.items }
+    ensures { vars.new.items ≡ insert_vars xs.now vars.old.items }
 {
     let mut left = xs;
     while let Some((first, rest)) = left.split_first() {
@@ -242,7 +243,7 @@ fn set_all_in_room(vars: &mut Vec<(Var, Term)>, xs: &[(Var, Term)])
 fn set_fresh_in_room(vars: &mut Vec<(Var, Term)>, from: u32, xs: &[Var])
     requires room { vec_len vars.old + length xs.now ≤ vec_capacity vars.old }
     requires numbers { from + length xs.now < 2 ^ 32 }
-    ensures { vars.new.items ≡ set_vars (fresh_for from xs.now) vars.old.items }
+    ensures { vars.new.items ≡ insert_vars (fresh_for from xs.now) vars.old.items }
 {
     let mut next = from;
     let mut left = xs;

@@ -1,4 +1,432 @@
-//! Replays over files, and what is said of them, worked out by hand.
+//! Schedules of a file's procedure, and what is said of them, worked out by hand. A row has a file,
+//! the name of an entry, the texts of a state and of a schedule, what `replay` says, and its status.
+
+/// Two that write, beside each other.
+const RC: &str = "w(x) [] { x->tl = nil; }
+m(x) [x|->] { w(x) || w(x); } [x|->]";
+
+/// Three tasks at one cell, of which the last two begin later; two that read it; one that reads and
+/// one that writes it.
+const MANY: &str = "w(x) [] { x->tl = nil; }
+r(x) [] { local t; t = x->tl; }
+p(x) [] { w(x) || w(x); }
+m(x) [x|->] { w(x) || p(x); }
+n(x) [x|->] { p(x) || w(x); }
+s(x) [x|->] { r(x) || r(x); }
+t(x) [x|->] { r(x) || w(x); }
+u(x) [x|->] { w(x) || r(x); }
+d(x) [x|->] { r(x) || free(x); }
+free(x) [] { dispose(x); }";
+
+/// A cell that is disposed of twice, a look-up of none, and one after a choice.
+const GONE: &str = "twice(x) [x|->] { dispose(x); dispose(x); }
+get(x) [] { local t; t = x->tl; }
+late(x, y) [] { if (x == y) { y = nil; } else { x->tl = y; } }
+beside(x) [x|->] { get(nil) || get(x); }";
+
+/// Two cells that are made.
+const MADE: &str = "f() [] { local s, t; s = new(); t = new(); s->tl = t; t->tl = nil; }
+g() [] { local s; s = new(); s = s->tl; s->tl = nil; }";
+
+/// A region that is held, and one whose condition may be false.
+const HELD: &str = "resource q (v) []
+one() [] { with q when (v == nil) { v = nil; } }
+two() [] { one() || one(); }";
+
+/// A schedule, of which lines are skipped, with blanks, a comment and returns.
+const SKIPPED: &str = "finished
+x = @1
+@1 tl=nil
+ schedule\t\r
+# the fork, and then nothing
+
+ 0\t2 \r
+0.1 2
+";
+
+/// A race, before which nothing is bad, and an event that is none.
+pub const FIRST_RACES: [(&str, &str, &str, &str, &str, u8); 4] = [
+    (
+        RC,
+        "m",
+        "x = @1\n@1",
+        "0 2",
+        "step 1: tasks 0.1 0.2 race on @1\n",
+        10,
+    ),
+    (RC, "m", "x = @1\n@1", "", "no such step\n", 0),
+    (
+        RC,
+        "m",
+        "x = @1\n@1",
+        "0.1 2",
+        "schedule refused: 82 NotAnEvent line 1 NoTask\n",
+        11,
+    ),
+    (RC, "w", "x = nil", "", "step 0: task 0 absent nil\n", 10),
+];
+
+/// What comes after something bad doesn't matter.
+pub const AFTER_A_RACE: [(&str, &str, &str, &str, &str, u8); 2] = [
+    (
+        RC,
+        "m",
+        "x = @1\n@1",
+        "0 2\n0.1 2\n0 2",
+        "step 1: tasks 0.1 0.2 race on @1\n",
+        10,
+    ),
+    (
+        RC,
+        "w",
+        "x = nil",
+        "0.1 5",
+        "step 0: task 0 absent nil\n",
+        10,
+    ),
+];
+
+/// Values at which there is no cell.
+pub const NO_LOCATIONS: [(&str, &str, &str, &str, &str, u8); 3] = [
+    (RC, "w", "x = -7", "", "step 0: task 0 absent -7\n", 10),
+    (RC, "w", "x = @3", "", "step 0: task 0 absent @3\n", 10),
+    (
+        GONE,
+        "get",
+        "x = @12",
+        "",
+        "step 0: task 0 absent @12\n",
+        10,
+    ),
+];
+
+/// A cell that is gone, and one that is looked for only after a choice.
+pub const ABSENT_CELLS: [(&str, &str, &str, &str, &str, u8); 6] = [
+    (GONE, "twice", "x = @1\n@1", "", "no such step\n", 0),
+    (
+        GONE,
+        "twice",
+        "x = @1\n@1",
+        "0 1",
+        "step 1: task 0 absent @1\n",
+        10,
+    ),
+    (
+        GONE,
+        "twice",
+        "x = @1\n@1",
+        "0 1\n0 2",
+        "step 1: task 0 absent @1\n",
+        10,
+    ),
+    (
+        GONE,
+        "late",
+        "x = 1\ny = 1",
+        "0 9\n0 8\n0 7",
+        "no such step\n",
+        0,
+    ),
+    (GONE, "late", "x = 1\ny = 2", "0 9", "no such step\n", 0),
+    (
+        GONE,
+        "late",
+        "x = 1\ny = 2",
+        "0 9\n0 8",
+        "step 2: task 0 absent 1\n",
+        10,
+    ),
+];
+
+/// The first task at an absent cell.
+pub const FIRST_TASKS: [(&str, &str, &str, &str, &str, u8); 1] = [(
+    GONE,
+    "beside",
+    "x = @1\n@1",
+    "0 2",
+    "step 1: task 0.1 absent nil\n",
+    10,
+)];
+
+/// The first pair of tasks that conflict.
+pub const FIRST_PAIRS: [(&str, &str, &str, &str, &str, u8); 4] = [
+    (MANY, "m", "x = @1\n@1", "0 2", "no such step\n", 0),
+    (
+        MANY,
+        "m",
+        "x = @1\n@1",
+        "0 2\n0.2 3",
+        "step 2: tasks 0.1 0.2.1 race on @1\n",
+        10,
+    ),
+    (
+        MANY,
+        "n",
+        "x = @1\n@1",
+        "0 2\n0.1 3",
+        "step 2: tasks 0.1.1 0.1.2 race on @1\n",
+        10,
+    ),
+    (
+        MANY,
+        "m",
+        "x = @1\n@1",
+        "0 2\n0.1 4\n0.2 3",
+        "step 3: tasks 0.2.1 0.2.2 race on @1\n",
+        10,
+    ),
+];
+
+/// Reading beside reading, beside writing, and beside disposing.
+pub const READERS: [(&str, &str, &str, &str, &str, u8); 4] = [
+    (
+        MANY,
+        "s",
+        "x = @1\n@1",
+        "0 2\n0.1 3\n0.2 4\n0.2 5\n0.1 6\n0 7",
+        "no such step\n",
+        0,
+    ),
+    (
+        MANY,
+        "t",
+        "x = @1\n@1",
+        "0 2",
+        "step 1: tasks 0.1 0.2 race on @1\n",
+        10,
+    ),
+    (
+        MANY,
+        "u",
+        "x = @1\n@1",
+        "0 2",
+        "step 1: tasks 0.1 0.2 race on @1\n",
+        10,
+    ),
+    (
+        MANY,
+        "d",
+        "x = @1\n@1",
+        "0 2",
+        "step 1: tasks 0.1 0.2 race on @1\n",
+        10,
+    ),
+];
+
+/// A parent waits for its children.
+pub const PARENTS: [(&str, &str, &str, &str, &str, u8); 1] = [(
+    MANY,
+    "s",
+    "x = @1\n@1",
+    "0 2\n0 3",
+    "schedule refused: 82 NotAnEvent line 2 NoTask\n",
+    11,
+)];
+
+/// Numbers that were used, a task that has ended, one that isn't there.
+pub const NO_EVENTS: [(&str, &str, &str, &str, &str, u8); 4] = [
+    (
+        MANY,
+        "s",
+        "x = @1\n@1",
+        "0 2\n0.1 2",
+        "schedule refused: 82 NotAnEvent line 2 Stale\n",
+        11,
+    ),
+    (
+        RC,
+        "w",
+        "x = @1\n@1",
+        "",
+        "start refused: 75 LeftOver @1\n",
+        5,
+    ),
+    (
+        "f() { }",
+        "f",
+        "",
+        "0 1",
+        "schedule refused: 82 NotAnEvent line 1 NoTask\n",
+        11,
+    ),
+    (
+        MANY,
+        "s",
+        "x = @1\n@1",
+        "0 2\n\n# the left one\n0.1.1 3",
+        "schedule refused: 82 NotAnEvent line 4 NoTask\n",
+        11,
+    ),
+];
+
+/// Where the cells of `new` are, and what is in them.
+pub const NEW_CELLS: [(&str, &str, &str, &str, &str, u8); 7] = [
+    (MADE, "f", "", "0 1\n0 2\n0 3\n0 4", "no such step\n", 0),
+    (
+        MADE,
+        "f",
+        "",
+        "0 1 @7\n0 2 @8\n0 3\n0 4",
+        "no such step\n",
+        0,
+    ),
+    (
+        MADE,
+        "f",
+        "",
+        "0 1\n0 2 @1",
+        "schedule refused: 82 NotAnEvent line 2 Stale\n",
+        11,
+    ),
+    (
+        MADE,
+        "f",
+        "",
+        "0 1 @2\n0 2",
+        "schedule refused: 82 NotAnEvent line 2 Stale\n",
+        11,
+    ),
+    (MADE, "g", "", "0 1\n0 2", "step 2: task 0 absent nil\n", 10),
+    (MADE, "g", "", "0 1 @4 tl=@4\n0 2\n0 3", "no such step\n", 0),
+    (
+        MADE,
+        "g",
+        "",
+        "0 1 @4 l=@4 tl=-3\n0 2",
+        "step 2: task 0 absent -3\n",
+        10,
+    ),
+];
+
+/// A region that is held, or whose condition is false.
+pub const REGIONS: [(&str, &str, &str, &str, &str, u8); 3] = [
+    (
+        HELD,
+        "two",
+        "q.v = nil",
+        "0 1\n0.1 2\n0.2 3",
+        "schedule refused: 82 NotAnEvent line 3 Waiting\n",
+        11,
+    ),
+    (
+        HELD,
+        "one",
+        "q.v = 1",
+        "0 2",
+        "schedule refused: 82 NotAnEvent line 1 Waiting\n",
+        11,
+    ),
+    (
+        HELD,
+        "two",
+        "q.v = nil",
+        "0 1\n0.1 2\n0.1 3\n0.1 4\n0.2 5\n0.2 6\n0.2 7\n0.2 8\n0.1 9\n0 10",
+        "no such step\n",
+        0,
+    ),
+];
+
+/// Lines that are skipped, which count.
+pub const SKIPPED_LINES: [(&str, &str, &str, &str, &str, u8); 3] = [
+    (
+        RC,
+        "m",
+        "x = @1\n@1",
+        SKIPPED,
+        "step 1: tasks 0.1 0.2 race on @1\n",
+        10,
+    ),
+    (
+        RC,
+        "m",
+        "x = @1\n@1",
+        "any\nschedule\n\n0.1 1",
+        "schedule refused: 82 NotAnEvent line 4 NoTask\n",
+        11,
+    ),
+    (
+        RC,
+        "m",
+        "x = @1\n@1",
+        "schedule\nschedule\n0 2",
+        "schedule refused: 80 BadLine line 2\n",
+        11,
+    ),
+];
+
+/// Lines of no form.
+pub const BAD_LINES: [(&str, &str, &str, &str, &str, u8); 6] = [
+    (
+        RC,
+        "m",
+        "x = @1\n@1",
+        "0",
+        "schedule refused: 80 BadLine line 1\n",
+        11,
+    ),
+    (
+        RC,
+        "m",
+        "x = @1\n@1",
+        "0 0",
+        "schedule refused: 80 BadLine line 1\n",
+        11,
+    ),
+    (
+        RC,
+        "m",
+        "x = @1\n@1",
+        "0 2\n0.3 1",
+        "schedule refused: 80 BadLine line 2\n",
+        11,
+    ),
+    (
+        RC,
+        "m",
+        "x = @1\n@1",
+        "0 2\n0 9223372036854775808",
+        "schedule refused: 80 BadLine line 2\n",
+        11,
+    ),
+    (
+        RC,
+        "m",
+        "x = @1\n@1",
+        "0 2 @1 tl=nil tl=nil",
+        "schedule refused: 80 BadLine line 1\n",
+        11,
+    ),
+    (
+        RC,
+        "m",
+        "x = @1\n@1",
+        "0 2 tl=nil",
+        "schedule refused: 80 BadLine line 1\n",
+        11,
+    ),
+];
+
+/// What is refused before the schedule.
+pub const BEFORE_SCHEDULES: [(&str, &str, &str, &str, &str, u8); 4] = [
+    (
+        RC,
+        "none",
+        "x = @1\n@1",
+        "0",
+        "start refused: 73 Unknown none\n",
+        5,
+    ),
+    (RC, "m", "x = @1", "0", "start refused: 74 Unmet pre\n", 5),
+    (RC, "m", "y = @1", "0", "start refused: 73 Unknown y\n", 5),
+    (
+        "f() { @ }",
+        "f",
+        "",
+        "0",
+        "file refused: 1 BadByte at 1:7\n",
+        3,
+    ),
+];
 
 /// Words over the files of `files`, and what is said of them.
 pub const REPLAYED_FILES: [(&[&str], &str, &str, u8); 5] = [

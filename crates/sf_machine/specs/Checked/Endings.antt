@@ -1,16 +1,11 @@
 -- The values that a run ends with, as lists by their places.
 -- Ordinary: a table of so many rows, each with its length.
-use Rattle.std.specs.Prelude.{◌≡◌, ℕ, ◌<◌, List, length, slice_get, slice_index_or, get_or, unwrap_or, Some, Vec}
+use Rattle.std.specs.Prelude.{◌≡◌, ℕ, List, length, slice_get, get_or, Some, Vec}
 use Rattle.std.specs.declared.alloc.Global.{Global}
 use Rattle.sf_base.specs.declared.ids.ResId.{ResId}
 use Rattle.sf_base.specs.declared.value.Value.{Value}
-use Rattle.sf_base.specs.declared.value.Value.TheVariants.{Nil as nil}
-use Rattle.sf_base.specs.HeapStore.{Slot, Store, shared}
-
--- there are so many values, each that of the slot of its place
-pub record AreValues (store : Store) (slot : ℕ → Slot) (count : ℕ) (values : List Value) : Type 0 where
-  pub length : length values ≡ count
-  pub at : (k : ℕ) → k < count → slice_index_or values k nil ≡ unwrap_or (store (slot k)) nil
+use Rattle.sf_base.specs.HeapStore.{Store, shared}
+use Rattle.sf_frame.specs.Checked.Endings.{AreValues}
 
 -- there are so many rows, each with the values of the variables of the resource of its place
 pub record AreRows (store : Store) (counts : List ℕ) (n : ℕ) (rows : List (Vec Value Global)) : Type 0 where

@@ -19,6 +19,7 @@ pub mod Restated
 pub mod States
 pub mod Terms
 pub mod TwoHeaps
+pub mod Updates
 use Rattle.std.specs.Prelude.{◌≡◌, ℕ, ◌<◌, ◌==◌, nat_lt, Bool, true, false, cond, Some, None, List, [], ◌∷◌, ◌++◌}
 use Rattle.std.proofs.Common.{refl, ap, subst, arith}
 use Rattle.std.specs.List.{flat_map}
@@ -79,33 +80,6 @@ pub after-mono : (m n : ℕ) (fs : List (FieldId × Term)) → m < n → AreAfte
 after-mono m n [] d b = tt
 after-mono m n (f ∷ fs) d b =
     let e : n < f.0.0 = b.0 in let r : m < f.0.0 = grind arith in (r, after-mono m n fs d b.1)
-
-is-more : (m n : ℕ) → m == n ≡ false → nat_lt n m ≡ false → m < n
-is-more m n e d = grind (arith, nat_tests)
-
--- so does what is put in
-put-after : (n : ℕ) (f : FieldId) (u : Term) (fs : List (FieldId × Term)) → n < f.0 → AreAfter n fs
-    → AreAfter n (put_term f u fs)
-put-after n f u [] d b = (d, tt)
-put-after n f u (g ∷ gs) d b = go (g.0.0 == f.0) (nat_lt f.0 g.0.0) (put-after n f u gs d b.1)
-  where
-    go : (s t : Bool) → AreAfter n (put_term f u gs)
-        → AreAfter n (cond s ((f, u) ∷ gs) (cond t ((f, u) ∷ g ∷ gs) (g ∷ put_term f u gs)))
-    go true t r = (d, b.1)
-    go false true r = (d, b)
-    go false false r = (b.0, r)
-
--- the fields stay in order
-pub put-order : (f : FieldId) (u : Term) (fs : List (FieldId × Term)) → AreOrdered fs
-    → AreOrdered (put_term f u fs)
-put-order f u [] o = (tt, tt)
-put-order f u (g ∷ gs) o = go (g.0.0 == f.0) (nat_lt f.0 g.0.0) refl refl (put-order f u gs o.1)
-  where
-    go : (s t : Bool) → g.0.0 == f.0 ≡ s → nat_lt f.0 g.0.0 ≡ t → AreOrdered (put_term f u gs)
-        → AreOrdered (cond s ((f, u) ∷ gs) (cond t ((f, u) ∷ g ∷ gs) (g ∷ put_term f u gs)))
-    go true t c d r = (subst (λ n. AreAfter n gs) (at-same f.0 g.0.0 c) o.0, o.1)
-    go false true c d r = ((ltb-true f.0 g.0.0 d, after-mono f.0 g.0.0 gs (ltb-true f.0 g.0.0 d) o.0), o)
-    go false false c d r = (put-after g.0.0 f u gs (is-more g.0.0 f.0 c d) o.0, r)
 
 -- one more item of the code comes first
 pub todo_of_push : (xs : List CodeItem) (x : CodeItem) → todo_of (xs ++ x ∷ []) ≡ items_of x ++ todo_of xs

@@ -1,5 +1,5 @@
 use Rattle.sf_machine.specs.Checked.Endings.{AreRows}
-use Rattle.sf_machine.specs.Checked.Resources.{counts_of}
+use Rattle.sf_frame.specs.Checked.Resources.{counts_of}
 use Rattle.sf_frame.specs.Stores.{store_of}
 use Rattle.sf_machine.proofs.finishing.values_of_resources.Given as goal
 

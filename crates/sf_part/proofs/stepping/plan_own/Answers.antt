@@ -8,7 +8,7 @@ use Rattle.sf_frame.specs.Frames.{fixed_of}
 use Rattle.sf_heap.specs.Cells.{cell_of}
 use Rattle.sf_part.specs.Checked.Stepping.{PlansOf}
 use Rattle.sf_part.specs.declared.stepping.Plan.TheVariants.{Says}
-use Rattle.sf_part.proofs.Planned.{own-absent, own-acts, own-missing, own-ready, own-runs}
+use Rattle.sf_part.proofs.Planned.{own-absent, own-acts, own-missing, own-ready, own-runs, own-unable}
 use Rattle.sf_part.proofs.stepping.plan_own.Goals as goal
 
 pub plan_command-requires : goal.plan_command-requires
@@ -40,6 +40,17 @@ unreachable-requires c =
     c.requires.next.2.0 (command_of c.args.command.now) c.requires.next.2.1 c.in_default.ensures
     (c.requires.next.1 ∙ ap running c.requires.next.2.2) c.in-Forks.field-0 c.in-Forks.field-1
     planned
+
+pub returns-then-is_empty-clause-plans : goal.returns-then-is_empty-clause-plans
+returns-then-is_empty-clause-plans c = (
+  frames_with (fixed_of c.args.frame.now) (command (command_of c.args.command.now)
+      ∷ c.requires.next.2.1)
+      c.requires.next.2.0,
+  c.requires.next.1 ∙ ap running c.requires.next.2.2,
+  own-unable (program_of c.args.p.now) c.args.part.now (fixed_of c.args.frame.now)
+      c.requires.next.2.0 (command_of c.args.command.now) c.requires.next.2.1 c.in_default.ensures
+      (c.is_empty.ensures.0 c.if-is_empty.true),
+)
 
 pub returns-in-Acts-clause-plans : goal.returns-in-Acts-clause-plans
 returns-in-Acts-clause-plans c =

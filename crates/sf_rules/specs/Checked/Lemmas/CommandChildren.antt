@@ -16,7 +16,7 @@ use Rattle.sf_core.specs.Program.Syntax.{Block, assign, look_up, mutate, new, di
 use Rattle.sf_rules.specs.Checked.Rows.Branches.{branch_row}
 use Rattle.sf_rules.specs.Checked.Rows.Commands.{assign_row, look_row, mutate_row, new_row, dispose_row, looked}
 use Rattle.sf_rules.specs.Rules.{with_var}
-use Rattle.sf_rules.specs.Checked.Lemmas.VariableTerms.{set-listed, set-order}
+use Rattle.sf_rules.specs.Checked.Lemmas.VariableTerms.{set-listed}
 use Rattle.sf_sym.specs.Cells.{cell_at, with_fields, without}
 use Rattle.sf_sym.specs.Decided.{command_test, is_decided}
 use Rattle.sf_sym.specs.declared.atom.Atom.TheVariants.{Points}
@@ -25,7 +25,7 @@ use Rattle.sf_sym.specs.declared.term.Term.{Term}
 use Rattle.sf_sym.specs.declared.term.Term.TheVariants.{Sym}
 use Rattle.sf_sym.specs.Fields.{field_term, put_term}
 use Rattle.sf_sym.specs.Goal.{Item, run, Goal, one_goal, to_run}
-use Rattle.sf_sym.specs.Checked.Lemmas.{put-order}
+use Rattle.sf_sym.specs.Checked.Lemmas.Updates.{put-order, set-order}
 use Rattle.sf_sym.specs.Checked.Lemmas.AtomLists.{at-all, at-cell, with_fields-all, without-all}
 use Rattle.sf_sym.specs.Ready.{HasOrder, is_listed}
 use Rattle.sf_sym.specs.Variables.{AreInOrder}

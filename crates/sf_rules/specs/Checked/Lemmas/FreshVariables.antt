@@ -1,7 +1,7 @@
 -- Variables that get fresh symbols, and those that are set and removed; and the terms of a callee's variables.
 -- Names: `fresh-LAW` of fresh symbols, `variables-length`, `CHANGE-below` of variables whose terms are below a number.
 use Rattle.std.specs.List.{AllByRecursion, filter}
-use Rattle.std.proofs.Common.{◌≡◌, ℕ, zero, suc, ◌+◌, ◌<◌, ◌≤◌, Bool, true, false, cond, List, [], ◌∷◌, length, map, refl, ap, arith}
+use Rattle.std.proofs.Common.{◌≡◌, ℕ, zero, suc, ◌+◌, ◌<◌, ◌≤◌, Bool, true, false, not, cond, List, [], ◌∷◌, length, map, refl, ap, arith}
 use Rattle.std.proofs.lemmas.List.Sums.{count_by-le-length, length-filter}
 use Rattle.sf_base.specs.declared.ids.ResId.{ResId}
 use Rattle.sf_base.specs.declared.ids.Var.{Var}
@@ -19,6 +19,7 @@ use Rattle.sf_sym.specs.Below.{AllPaired, IsBelow}
 use Rattle.sf_sym.specs.declared.term.Term.{Term}
 use Rattle.sf_sym.specs.Checked.Lemmas.Below.{below-symbol}
 use Rattle.sf_sym.specs.Checked.Lemmas.KnownValues.{set-all, term-all}
+use Rattle.sf_sym.specs.Checked.Lemmas.Updates.{all-kept}
 use Rattle.sf_sym.specs.State.{State, term, term_at}
 use Rattle.sf_sym.specs.Variables.{fresh_for, remove_var, remove_vars, set_var, set_vars}
 
@@ -60,13 +61,8 @@ module _ (n : ℕ) where
 
   remove-below : (x : Var) (vs : List (Var × Term)) → AllPaired (IsBelow n) vs
       → AllPaired (IsBelow n) (remove_var x vs)
-  remove-below x [] b = tt
-  remove-below x (v ∷ vs) b = go (same_var v.0 x) (remove-below x vs b.1)
-    where
-      go : (c : Bool) → AllPaired (IsBelow n) (remove_var x vs)
-          → AllPaired (IsBelow n) (cond c vs (v ∷ remove_var x vs))
-      go true r = b.1
-      go false r = (b.0, r)
+  remove-below x vs b =
+      all-kept (λ (v : Var × Term). IsBelow n v.1) (λ v. not (same_var v.0 x)) vs b
 
   pub removed-below : (xs : List Var) (vs : List (Var × Term)) → AllPaired (IsBelow n) vs
       → AllPaired (IsBelow n) (remove_vars xs vs)

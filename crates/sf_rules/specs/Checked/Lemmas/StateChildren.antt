@@ -34,7 +34,7 @@ use Rattle.sf_sym.specs.Equalities.{assumed_apart, assumed_equal, atom_with, num
 use Rattle.sf_sym.specs.Fields.{AreAfter, AreOrdered, put_term}
 use Rattle.sf_sym.specs.Goal.{Item, add, Goal, adding, one_goal}
 use Rattle.sf_sym.specs.Known.{ends, forced_pair, is_nothing}
-use Rattle.sf_sym.specs.Checked.Lemmas.{put-order}
+use Rattle.sf_sym.specs.Checked.Lemmas.Updates.{put-order}
 use Rattle.sf_sym.specs.Checked.Lemmas.AtomLists.{without-all}
 use Rattle.sf_sym.specs.Pending.{Pending}
 use Rattle.sf_sym.specs.Ready.{HasOrder, is_listed}

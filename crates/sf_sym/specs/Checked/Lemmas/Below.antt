@@ -13,6 +13,7 @@ use Rattle.sf_sym.specs.declared.atom.Numbered.{Numbered}
 use Rattle.sf_sym.specs.declared.term.Term.{Term}
 use Rattle.sf_sym.specs.declared.term.Term.TheVariants.{Nil, Int, Sym}
 use Rattle.sf_sym.specs.Below.{AllInAtom, AllInAtoms, AllInGoal, AllInItem, AllInPairs, AllInPending, AllInState, AllPaired, IsBelow, SameBelow}
+use Rattle.sf_sym.specs.Checked.Lemmas.Updates.{all-updated}
 use Rattle.sf_sym.specs.Fields.{put_term}
 use Rattle.sf_sym.specs.Goal.{Item, run, add, take, gave, head, again, exit, return, end, Goal}
 use Rattle.sf_sym.specs.Holds.{term_value}
@@ -96,14 +97,9 @@ below-value n v w s (Sym k) b = sym (s k (ltb-true k n b))
 -- a term that is put among the fields of a cell has the property that they have
 pub put-all : (P : Term → Type 0) (f : FieldId) (u : Term) (fields : List (FieldId × Term)) → P u
     → AllPaired P fields → AllPaired P (put_term f u fields)
-put-all P f u [] p a = (p, tt)
-put-all P f u (g ∷ gs) p a = go (g.0.0 == f.0) (nat_lt f.0 g.0.0) (put-all P f u gs p a.1)
-  where
-    go : (s t : Bool) → AllPaired P (put_term f u gs)
-        → AllPaired P (cond s ((f, u) ∷ gs) (cond t ((f, u) ∷ g ∷ gs) (g ∷ put_term f u gs)))
-    go true t r = (p, a.1)
-    go false true r = (p, a)
-    go false false r = (a.0, r)
+put-all P f u fields p a =
+    all-updated (λ (g : FieldId × Term). P g.1) (λ g. nat_lt g.0.0 f.0) (λ g. nat_lt f.0 g.0.0) (f, u)
+    fields p a
 
 -- terms that are forced are terms of the atom
 pub forced-below : (n : ℕ) (x : Atom) (elsewhere : Bool) (both : Term × Term) → forced_by elsewhere x ≡ Some both

@@ -1,5 +1,6 @@
 -- The known fields of a cell: what is put among them is true of it, and each has its term's value.
 -- Names: `put-LAW` speaks of `put_term`, `field-LAW` of `field_term`.
+use Rattle.std.specs.List.{AllByRecursion}
 use Rattle.std.proofs.Common.{◌≡◌, ℕ, ◌==◌, Bool, true, false, cond, nat_lt, List, [], ◌∷◌, Some, refl, sym, ap, ◌∙◌, subst}
 use Rattle.std.proofs.lemmas.Bool.{ltb-true}
 use Rattle.std.proofs.lemmas.Option.{same_Some}
@@ -11,53 +12,46 @@ use Rattle.sf_base.specs.HeapStore.{Cell, put_field}
 use Rattle.sf_core.specs.Assertions.Sat.{HasFields}
 use Rattle.sf_sym.specs.declared.term.Term.{Term}
 use Rattle.sf_sym.specs.Below.{AllPaired}
-use Rattle.sf_sym.specs.Fields.{AreAfter, AreOrdered, field_term, put_term}
-use Rattle.sf_sym.specs.Checked.Lemmas.{after-mono}
+use Rattle.sf_sym.specs.Fields.{field_term, put_term}
+use Rattle.sf_sym.specs.Checked.Lemmas.Updates.{all-updated, all-updated_by, fields, flipped, less-other}
 
 module _ (v : Term → Value) where
+  -- the fields that a cell has, as what each of them has
+  has-all : (here : Cell) (fs : List (FieldId × Term)) → HasFields v fs here
+      → AllByRecursion (λ (g : FieldId × Term). here g.0.0 ≡ v g.1) fs
+  has-all here [] h = tt
+  has-all here (g ∷ gs) h = (h.0, has-all here gs h.1)
+
+  all-has : (here : Cell) (fs : List (FieldId × Term))
+      → AllByRecursion (λ (g : FieldId × Term). here g.0.0 ≡ v g.1) fs → HasFields v fs here
+  all-has here [] a = tt
+  all-has here (g ∷ gs) a = (a.0, all-has here gs a.1)
+
   -- a field that the cell has may be put among them
   pub put-known : (f : FieldId) (u : Term) (fs : List (FieldId × Term)) (here : Cell) → here f.0 ≡ v u
       → HasFields v fs here → HasFields v (put_term f u fs) here
-  put-known f u [] here e h = (e, tt)
-  put-known f u (g ∷ gs) here e h = go (g.0.0 == f.0) (nat_lt f.0 g.0.0) (put-known f u gs here e h.1)
-    where
-      go : (s t : Bool) → HasFields v (put_term f u gs) here
-          → HasFields v (cond s ((f, u) ∷ gs) (cond t ((f, u) ∷ g ∷ gs) (g ∷ put_term f u gs))) here
-      go true t r = (e, h.1)
-      go false true r = (e, h)
-      go false false r = (h.0, r)
-
-  put-others : (n : ℕ) (x : Value) (fs : List (FieldId × Term)) (here : Cell) → AreAfter n fs
-      → HasFields v fs here → HasFields v fs (put_field here n x)
-  put-others n x [] here b h = tt
-  put-others n x (g ∷ gs) here b h =
-      (ap (λ t. cond t x (here g.0.0)) (eqb-greater n g.0.0 b.0) ∙ h.0, put-others n x gs here b.1 h.1)
+  put-known f u fs here e h =
+      all-has here (put_term f u fs)
+      (all-updated (λ (g : FieldId × Term). here g.0.0 ≡ v g.1) (λ g. nat_lt g.0.0 f.0)
+      (λ g. nat_lt f.0 g.0.0) (f, u) fs e (has-all here fs h))
 
   put-self : (n : ℕ) (x : Value) (here : Cell) → put_field here n x n ≡ x
   put-self n x here = ap (λ t. cond t x (here n)) (at-self n)
 
+  put-other : (n m : ℕ) (x : Value) (here : Cell) → m == n ≡ false → put_field here n x m ≡ here m
+  put-other n m x here e = ap (λ t. cond t x (here m)) e
+
   -- a field that is written in the cell is put among them
-  pub put-written : (f : FieldId) (u : Term) (fs : List (FieldId × Term)) (here : Cell) → AreOrdered fs
+  pub put-written : (f : FieldId) (u : Term) (fs : List (FieldId × Term)) (here : Cell)
       → HasFields v fs here → HasFields v (put_term f u fs) (put_field here f.0 (v u))
-  put-written f u [] here o h = (put-self f.0 (v u) here, tt)
-  put-written f u (g ∷ gs) here o h =
-      go (g.0.0 == f.0) (nat_lt f.0 g.0.0) refl refl (put-written f u gs here o.1 h.1)
-    where
-      go : (s t : Bool) → g.0.0 == f.0 ≡ s → nat_lt f.0 g.0.0 ≡ t
-          → HasFields v (put_term f u gs) (put_field here f.0 (v u))
-          → HasFields v (cond s ((f, u) ∷ gs) (cond t ((f, u) ∷ g ∷ gs) (g ∷ put_term f u gs)))
-          (put_field here f.0 (v u))
-      go true t c d r = (
-        put-self f.0 (v u) here,
-        put-others f.0 (v u) gs here
-            (subst (λ n. AreAfter n gs) (at-same f.0 g.0.0 c) o.0) h.1,
-      )
-      go false true c d r = (
-        put-self f.0 (v u) here,
-        put-others f.0 (v u) (g ∷ gs) here
-            (ltb-true f.0 g.0.0 d, after-mono f.0 g.0.0 gs (ltb-true f.0 g.0.0 d) o.0) h,
-      )
-      go false false c d r = (ap (λ t. cond t (v u) (here g.0.0)) c ∙ h.0, r)
+  put-written f u fs here h =
+      let after : Cell = put_field here f.0 (v u) in
+      all-has after (put_term f u fs)
+      (all-updated_by (λ (g : FieldId × Term). here g.0.0 ≡ v g.1) (λ g. after g.0.0 ≡ v g.1)
+      (λ g. nat_lt g.0.0 f.0) (λ g. nat_lt f.0 g.0.0)
+      (λ g b e. put-other f.0 g.0.0 (v u) here (flipped fields f g.0 (less-other g.0.0 f.0 b)) ∙ e)
+      (λ g b e. put-other f.0 g.0.0 (v u) here (less-other f.0 g.0.0 b) ∙ e)
+      (f, u) fs (put-self f.0 (v u) here) (has-all here fs h))
 
 -- a known field has its term's value
 pub field-value : (v : Term → Value) (fields : List (FieldId × Term)) (f : FieldId) (t : Term) (here : Cell)

@@ -16,12 +16,13 @@ use Rattle.sf_base.specs.Variables.{same_var}
 use Rattle.sf_core.specs.declared.command.Expr.{Expr}
 use Rattle.sf_core.specs.declared.command.Expr.TheVariants.{Var as Variable, Nil as ENil, Int as EInt}
 use Rattle.sf_sym.specs.Below.{AllPaired}
+use Rattle.sf_sym.specs.Checked.Lemmas.Updates.{all-updated, all-updated_by, before-other, flipped, variables}
 use Rattle.sf_sym.specs.declared.term.Term.{Term}
 use Rattle.sf_sym.specs.declared.term.Term.TheVariants.{Nil, Int}
 use Rattle.sf_sym.specs.Holds.{term_value, Agrees}
 use Rattle.sf_sym.specs.Ready.{HasValue, IsIn, is_listed, value_at, with_variable}
 use Rattle.sf_sym.specs.State.{term, term_at}
-use Rattle.sf_sym.specs.Variables.{AreInOrder, comes_before, set_var}
+use Rattle.sf_sym.specs.Variables.{comes_before, set_var}
 
 module _ (w : ℕ → Value) (e : Var → Option Value) where
   -- a variable with a value and a term has the term's value
@@ -63,75 +64,30 @@ term-all P n i vars a (Variable x) = at vars a
 term-all P n i vars a ENil = n
 term-all P n i vars a (EInt j) = i j
 
--- a variable that comes before another isn't it
-pub before-other : (x y : Var) → comes_before x y ≡ true → same_var y x ≡ false
-before-other (Own i) (Own j) b = grind (arith, nat_tests)
-before-other (Own i) (Shared r j) b = refl
-before-other (Shared q i) (Own j) b = refl
-before-other (Shared q i) (Shared r j) b = grind (arith, nat_tests)
-
--- what comes before another comes before those that it comes before
-pub before-trans : (x y z : Var) → comes_before x y ≡ true → comes_before y z ≡ true → comes_before x z ≡ true
-before-trans (Own i) (Own j) (Own k) b c = grind (arith, nat_tests)
-before-trans (Own i) (Own j) (Shared r k) b c = refl
-before-trans (Own i) (Shared q j) (Own k) b c = absurd (cc)
-before-trans (Own i) (Shared q j) (Shared r k) b c = refl
-before-trans (Shared p i) (Own j) z b c = absurd (cc)
-before-trans (Shared p i) (Shared q j) (Own k) b c = absurd (cc)
-before-trans (Shared p i) (Shared q j) (Shared r k) b c = grind (arith, nat_tests)
-
 module _ (w : ℕ → Value) (e : Var → Option Value) (x : Var) (u : Value) where
   -- the value of another variable stays
   other-agrees : (y : Var × Term) → same_var y.0 x ≡ false → Agrees w e y → Agrees w (with_variable x u e) y
   other-agrees y n a v i = a v (sym (ap (λ b. cond b (Some u) (e y.0)) n) ∙ i)
-
-  -- the values of those that come after it stay
-  later-agree : (vs : List (Var × Term)) → AllByRecursion (λ (y : Var × Term). comes_before x y.0 ≡ true) vs
-      → AllByRecursion (Agrees w e) vs → AllByRecursion (Agrees w (with_variable x u e)) vs
-  later-agree [] b a = tt
-  later-agree (y ∷ ys) b a =
-      (other-agrees y (before-other x y.0 b.0) a.0, later-agree ys b.1 a.1)
 
   -- it has the value of its term
   here-agrees : (t : Term) → u ≡ term_value w t → Agrees w (with_variable x u e) (x, t)
   here-agrees t is v i =
       same_Some v u (sym i ∙ ap (λ b. cond b (Some u) (e x)) ((same_var-decides x x).1 refl)) ∙ is
 
-  after-more : (y : Var) (vs : List (Var × Term)) → comes_before x y ≡ true
-      → AllByRecursion (λ (z : Var × Term). comes_before y z.0 ≡ true) vs
-      → AllByRecursion (λ (z : Var × Term). comes_before x z.0 ≡ true) vs
-  after-more y [] b a = tt
-  after-more y (z ∷ zs) b a = (before-trans x y z.0 b a.0, after-more y zs b a.1)
-
   -- where a variable is set, all have their terms' values
-  pub set-agrees : (vs : List (Var × Term)) (t : Term) → AreInOrder vs → u ≡ term_value w t
-      → AllByRecursion (Agrees w e) vs → AllByRecursion (Agrees w (with_variable x u e)) (set_var x t vs)
-  set-agrees [] t o is a = (here-agrees t is, tt)
-  set-agrees (y ∷ ys) t o is a =
-      go (same_var y.0 x) refl (comes_before x y.0) refl (set-agrees ys t o.1 is a.1)
-    where
-      go : (b : Bool) → same_var y.0 x ≡ b → (c : Bool) → comes_before x y.0 ≡ c
-          → AllByRecursion (Agrees w (with_variable x u e)) (set_var x t ys)
-          → AllByRecursion (Agrees w (with_variable x u e))
-          (cond b ((x, t) ∷ ys) (cond c ((x, t) ∷ y ∷ ys) (y ∷ set_var x t ys)))
-      go true i c j r = (
-        here-agrees t is,
-        later-agree ys
-            (subst (λ z. AllByRecursion (λ (v : Var × Term). comes_before z v.0 ≡ true) ys)
-            ((same_var-decides y.0 x).0 i) o.0) a.1,
-      )
-      go false i true j r =
-          (here-agrees t is, (other-agrees y i a.0, later-agree ys (after-more y.0 ys j o.0) a.1))
-      go false i false j r = (other-agrees y i a.0, r)
+  pub set-agrees : (vs : List (Var × Term)) (t : Term) → u ≡ term_value w t
+      → AllByRecursion (Agrees w e) vs
+      → AllByRecursion (Agrees w (with_variable x u e)) (set_var x t vs)
+  set-agrees vs t is a =
+      all-updated_by (Agrees w e) (Agrees w (with_variable x u e)) (λ v. comes_before v.0 x)
+      (λ v. comes_before x v.0)
+      (λ y b c. other-agrees y
+      (flipped variables x y.0 (before-other y.0 x b)) c)
+      (λ y b c. other-agrees y (before-other x y.0 b) c) (x, t) vs (here-agrees t is) a
 
 -- a variable's term that is set has a property that all have
 pub set-all : (P : Term → Type 0) (x : Var) (t : Term) (vs : List (Var × Term)) → P t → AllPaired P vs
     → AllPaired P (set_var x t vs)
-set-all P x t [] p a = (p, tt)
-set-all P x t (y ∷ ys) p a = go (same_var y.0 x) (comes_before x y.0) (set-all P x t ys p a.1)
-  where
-    go : (b c : Bool) → AllPaired P (set_var x t ys)
-        → AllPaired P (cond b ((x, t) ∷ ys) (cond c ((x, t) ∷ y ∷ ys) (y ∷ set_var x t ys)))
-    go true c r = (p, a.1)
-    go false true r = (p, a)
-    go false false r = (a.0, r)
+set-all P x t vs p a =
+    all-updated (λ (v : Var × Term). P v.1) (λ v. comes_before v.0 x) (λ v. comes_before x v.0) (x, t)
+    vs p a

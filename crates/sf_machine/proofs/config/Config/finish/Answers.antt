@@ -4,7 +4,7 @@ use Rattle.sf_base.specs.HeapStore.{own}
 use Rattle.sf_core.specs.Program.ProgramView.{program_of}
 use Rattle.sf_core.specs.Program.View.{procedure_of}
 use Rattle.sf_machine.specs.Configs.{config_of}
-use Rattle.sf_machine.specs.Checked.Endings.{AreValues}
+use Rattle.sf_frame.specs.Checked.Endings.{AreValues}
 use Rattle.sf_frame.specs.Stores.{store_of}
 use Rattle.sf_machine.proofs.Endings.{run_ended, slice_get_some}
 use Rattle.sf_machine.proofs.config.Config.finish.Goals as goal

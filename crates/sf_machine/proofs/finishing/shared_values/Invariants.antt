@@ -1,8 +1,0 @@
-use Rattle.sf_base.specs.HeapStore.{shared}
-use Rattle.sf_machine.specs.Checked.Endings.{AreValues}
-use Rattle.sf_frame.specs.Stores.{store_of}
-use Rattle.sf_machine.proofs.finishing.shared_values.Given as goal
-
--- so many are there
-abbrev pub invariant-loop-i : goal.invariant-loop-i
-invariant-loop-i l = AreValues (store_of l.store) (shared l.r) l.i l.values.items

@@ -1,0 +1,13 @@
+pub mod Lists
+pub mod Runs
+pub mod Single
+pub mod Insides
+pub mod Events
+pub mod Keeps
+pub mod Stands
+pub mod Waits
+pub mod Seeing
+pub mod Asks
+pub mod Ends
+pub mod Closing
+pub mod Draining

@@ -1,0 +1,2 @@
+-- What is checked inside of the table alone.
+pub mod PutBack

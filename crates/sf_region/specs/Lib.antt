@@ -1,0 +1,10 @@
+pub mod Marks
+pub mod Holdings
+pub mod Stamps
+pub mod Waits
+pub mod Receipt
+pub mod Rule
+pub mod Plays
+pub mod Calls
+pub mod Keys
+pub mod Checked

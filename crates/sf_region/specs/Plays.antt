@@ -1,0 +1,176 @@
+-- Plays: what each step on a word makes of a seat's view, and what its caller is told.
+-- Ordinary: the view after from the view before, by the kinds of step.
+use Rattle.std.specs.Prelude.{◌≡◌, ◌≢◌, ◌==◌, ◌+◌, ◌≤◌, ℕ, suc, cond, min, max, false, List, [], ◌∷◌, ◌++◌, map, Option, Some, None}
+use mathlib.Core.Option.{some}
+use lib.ListN.{get_elem?}
+use Rattle.atomic_table.specs.Table.{Step, Me, rest}
+use Rattle.sf_base.specs.declared.ids.ResId.{ResId}
+use Rattle.sf_base.specs.declared.limits.TheConstants.{STEPS}
+use Rattle.sf_core.specs.Machine.Config.{Config}
+use Rattle.sf_part.specs.declared.content.Content.{Content}
+use Rattle.sf_part.specs.declared.part.Part.{Part}
+use Rattle.sf_part.specs.Contents.{content_of}
+use Rattle.sf_part.specs.Entry.{AreApart}
+use Rattle.sf_part.specs.PartView.{part_of}
+use Rattle.sf_part.specs.Timed.{TimedPart}
+use Rattle.sf_region.specs.declared.views.Begun.{Begun}
+use Rattle.sf_region.specs.declared.views.View.{View}
+use Rattle.sf_region.specs.Marks.{Mark, History}
+use Rattle.sf_region.specs.Rule.{Slot, IsExactly, untimed, present}
+use Rattle.sf_region.specs.Stamps.{Stamps, units_of}
+use Rattle.sf_region.specs.Waits.{BeganAt, Missed, first_of, opening_parts, program_in}
+
+-- one more, up to 2^32 - 1
+abbrev pub bump : ℕ → ℕ
+bump n = min (n + 1) 4294967295
+
+-- the misses that count since the task's last event, where the part is as it now is
+abbrev pub since : Part → View → ℕ
+since a v = cond (a.clock == v.part.clock) v.misses 0
+
+-- the view with the part as it now is, and these parts of children, and no content in hand
+abbrev pub moved : Part → List Part → View → View
+moved a kids v = record {
+  live = v.live;
+  hand = None;
+  part = a;
+  kids = kids;
+  missed = v.missed;
+  misses = since a v;
+  begun = v.begun;
+}
+
+-- a word was won, and its content is in hand
+abbrev pub won : Content → View → View
+won k v = record {
+  live = v.live;
+  hand = Some k;
+  part = v.part;
+  kids = v.kids;
+  missed = k.resource;
+  misses = v.misses;
+  begun = v.begun;
+}
+
+-- a word was found taken: one miss more
+abbrev pub lost : ResId → View → View
+lost r v = record {
+  live = v.live;
+  hand = v.hand;
+  part = v.part;
+  kids = v.kids;
+  missed = r;
+  misses = bump v.misses;
+  begun = v.begun;
+}
+
+-- about to put a content back
+abbrev pub giving : Content → Part → View → View
+giving k a v = record {
+  live = v.live;
+  hand = Some k;
+  part = a;
+  kids = [];
+  missed = v.missed;
+  misses = since a v;
+  begun = v.begun;
+}
+
+-- a content was put back: a miss more where there was no event
+abbrev pub left : Part → View → View
+left a v = record {
+  live = v.live;
+  hand = None;
+  part = a;
+  kids = [];
+  missed = v.missed;
+  misses = cond (a.clock == v.part.clock) (bump v.misses) 0;
+  begun = v.begun;
+}
+
+-- the slots that a seat has taken, emptied
+abbrev pub hollow : List ℕ → List (ℕ × Slot)
+hollow [] = []
+hollow (r ∷ rs) = (r, None) ∷ hollow rs
+
+-- Lives: one list of events leads from each configuration at which the table began to one in which
+-- this part is a task's, beside other parts, and these contents are those that count
+pub record Lives (b : Begun) (a : TimedPart) (contents : List (Option Content)) : Type 0 where
+  pub marks : List Mark
+  pub before : List TimedPart
+  pub after : List TimedPart
+  pub history : (c : Config) → BeganAt b c
+      → History (program_in b) (opening_parts b) c marks (untimed (before ++ a ∷ after))
+      (present contents)
+  pub stamps : Stamps (first_of b) marks (before ++ a ∷ after) contents
+
+-- the same with some contents
+abbrev pub IsThere : Begun → TimedPart → Type 0
+IsThere b a = (contents : List (Option Content)) × Lives b a contents
+
+-- the same with this content as that of its resource
+abbrev pub IsThereWith : Begun → TimedPart → Content → Type 0
+IsThereWith b a k = (contents : List (Option Content)) × Lives b a contents
+    × (get_elem? contents k.resource.0 ≡ some (Some k))
+
+-- Finished: at the end there is this part and no other, and these are the contents of all
+-- resources
+pub record Finished (b : Begun) (a : TimedPart) (contents : List Content) : Type 0 where
+  pub marks : List Mark
+  pub history : (c : Config) → BeganAt b c
+      → History (program_in b) (opening_parts b) c marks (a.part ∷ []) (present (map Some contents))
+  pub stamps : Stamps (first_of b) marks (a ∷ []) (map Some contents)
+
+-- what a task may rely on of a content that it got: it may take it in
+pub record IsFor (b : Begun) (a : TimedPart) (r : ResId) (k : Content) : Type 0 where
+  pub resource : k.resource ≡ r
+  pub exactly : IsExactly (program_in b) r.0 k
+  pub apart : AreApart a.part (content_of k).content
+  pub room : max a.clock k.stamp + units_of a ≤ STEPS
+  pub there : IsThereWith b a k
+
+-- what a view's misses stand for
+abbrev pub Known : View → Type 0
+Known v = Missed v.begun (part_of v.part).part.task v.missed v.misses
+
+-- what a try at the resource of a step's word tells
+abbrev pub tries : Part → Step Slot → Me Slot View → ℕ → Me Slot View → Type 0
+tries a st m found n = (r : ResId) → st.word ≡ suc r.0
+    → (found ≡ 0 → (k : Content) × (n ≡ (won k (moved a [] m.0), (r.0, Some k) ∷ m.1))
+    × IsFor m.0.begun (part_of a) r k × Known (won k (moved a [] m.0)))
+    × (found ≢ 0 → (n ≡ (lost r (moved a [] m.0), m.1)) × IsThere m.0.begun (part_of a)
+    × Known (lost r (moved a [] m.0)))
+
+-- what the step tells at which a content was put back
+abbrev pub leaves : Part → Me Slot View → Me Slot View → Type 0
+leaves a m n = (n ≡ (left a m.0, rest m.1)) × IsThere m.0.begun (part_of a) × Known (left a m.0)
+
+-- what a load of word 0 tells that puts the part as it now is into the view
+abbrev pub notes : Part → List Part → Me Slot View → Me Slot View → Type 0
+notes a kids m n = (n ≡ (moved a kids m.0, m.1)) × IsThere m.0.begun (part_of a)
+    × Known (moved a kids m.0)
+
+-- a seat's place with no part: it carries what a receipt says
+abbrev pub dead : View → View
+dead v = record {
+  live = false;
+  hand = None;
+  part = v.part;
+  kids = [];
+  missed = v.missed;
+  misses = v.misses;
+  begun = v.begun;
+}
+
+abbrev pub buries : View → Me Slot View → Type 0
+buries v n = n ≡ (dead v, [])
+
+-- what an aimed step tells of the part, and of the parts of children, that its call names
+abbrev pub aimed : List Part → (Part → List Part → Type 0) → Type 0
+aimed [] P = Unit {0}
+aimed (a ∷ kids) P = P a kids
+
+-- what it tells of the view that its call names
+abbrev pub seen : List View → (View → Type 0) → Type 0
+seen [] P = Unit {0}
+seen (v ∷ views) P = P v

@@ -1,0 +1,180 @@
+//! Parts of one task: with which part and contents a run begins, its own steps, and what it ends
+//! with. Numbers of events, stamps and values are worked out by hand.
+
+ghost use Rattle.std.specs.Prelude.{◌<◌, IfOk, IfSome, length};
+ghost use Rattle.sf_core.specs.Program.ProgramView.{program_of};
+ghost use Rattle.sf_part.specs.Answers.{Answers};
+ghost use Rattle.sf_part.specs.PartView.{IsPartOf, part_of};
+ghost use Rattle.sf_running_tests.specs.Checked.Running.{IsAtEntry};
+
+use crate::files::{Entered, fitted, start_of};
+use crate::running::{TURNED, TWO_CELLS};
+use sf_base::limits::STEPS;
+use sf_base::{FieldId, ProcId, ResId, TaskPath, Value};
+use sf_core::Program;
+use sf_foot::Vars;
+use sf_frame::Spot;
+use sf_heap::Heap;
+use sf_part::{Content, Local, Log, Part, Stamped};
+use sf_precise::Arranged;
+use std::alloc::{AllocError, Global};
+use std::test::Fail;
+
+/// A procedure that runs, with its part and the contents beside it.
+#[derive(Drop)]
+struct Begun<'p> {
+    f: ProcId,
+    part: Part<'p>,
+    contents: Vec<Content>,
+}
+
+/// The part and the contents with which the procedure of that name begins from what the text gives,
+/// with so many units and a log, if it does.
+fn begin_part<'p>(
+    alloc: Global,
+    p: &'p Arranged,
+    name: &str,
+    text: &[u8],
+    steps: u64,
+) -> Result<Option<Begun<'p>>, AllocError>
+    ensures of { IfOk result (λ o. IfSome o (λ b.
+        IsPartOf (program_of p.now.program) b.part)) }
+    ensures entry { IfOk result (λ o. IfSome o (λ b. IsAtEntry (part_of b.part))) }
+    ensures within { IfOk result
+        (λ o. IfSome o (λ b. b.f.0 < length p.now.program.procedures.items)) }
+{
+    if steps == 0 || steps > STEPS {
+        return Ok(None);
+    }
+    let Some(entered) = start_of(alloc, p, name, text) else {
+        return Ok(None);
+    };
+    let Entered { f, start } = entered;
+    let (part, contents) = Part::first(alloc, p, f, start, steps, true)?;
+    Ok(Some(Begun { f, part, contents }))
+}
+
+/// Makes the next steps of the entry's task that are its own affair, at most 20, and tells how many
+/// there were and why there is no further one.
+fn own_steps<'p>(part: &mut Part<'p>, p: &'p Program) -> Result<Option<(u64, Local)>, AllocError>
+    requires of { IsPartOf (program_of p.now) part.old }
+    requires entry { IsAtEntry (part_of part.old) }
+    ensures of { IsPartOf (program_of p.now) part.new }
+    ensures entry { IsAtEntry (part_of part.new) }
+    ensures answers { IfOk result (λ o. IfSome o
+        (λ told. Answers (program_of p.now) (part_of part.new) told.1)) }
+{
+    for count in 0..20 {
+        part.make_room()?;
+        match part.step_local(p)? {
+            Local::Moved => {}
+            answer => return Ok(Some((count, answer))),
+        }
+    }
+    Ok(None)
+}
+
+/// How many own steps a run of the procedure of that name makes, and what its part ends with, if it
+/// ends with them.
+fn ended(
+    alloc: Global,
+    p: &Arranged,
+    name: &str,
+    text: &[u8],
+    steps: u64,
+) -> Result<Option<(u64, Vars, Heap, Log)>, AllocError> {
+    let Some(begun) = begin_part(alloc, p, name, text, steps)? else {
+        return Ok(None);
+    };
+    let Begun { f, mut part, .. } = begun;
+    match own_steps(&mut part, &p.program)? {
+        Some((count, Local::Done)) => {
+            let (vars, heap, log) = part.into_end(&p.program, f)?;
+            Ok(Some((count, vars, heap, log)))
+        }
+        _ => Ok(None),
+    }
+}
+
+/// The value of a field of the cell at a location.
+fn field(heap: &Heap, at: u64, field: u32) -> Option<Value> {
+    heap.get(at).map(|cell| cell.get(FieldId(field)))
+}
+
+#[test]
+fn a_part_begins_steps_and_ends(rt: HostRuntime) -> Result<(), Fail> {
+    let alloc = rt.alloc();
+    let p = fitted(alloc, TURNED).expect(&rt, "a program");
+    let (count, vars, heap, log) = ended(alloc, &p, "rev", TWO_CELLS, 13)?.expect(&rt, "an end");
+    assert_eq!(rt; count, 13);
+    assert!(rt; vars.own.as_slice() == [Value::Loc(2), Value::Loc(1)].as_slice());
+    assert_eq!(rt; vars.shared.len(), 0);
+    assert_eq!(rt; heap.len(), 2);
+    assert_eq!(rt; field(&heap, 1, 1), Some(Value::Nil));
+    assert_eq!(rt; field(&heap, 2, 1), Some(Value::Loc(1)));
+    assert_eq!(rt; log.entries.len(), 13);
+    let first = Stamped {
+        stamp: 1,
+        task: TaskPath::entry(),
+        number: 3,
+    };
+    let last = Stamped {
+        stamp: 13,
+        task: TaskPath::entry(),
+        number: 15,
+    };
+    assert_eq!(rt; log.entries.as_slice().first().copied(), Some(first));
+    assert_eq!(rt; log.entries.as_slice().last().copied(), Some(last));
+    Ok(())
+}
+
+/// Cells that are handed out, with a list of those that were given back.
+const KEPT_CELLS: &[u8] = b"
+    resource mm (f) [list(f)]
+    alloc(x;) [emp] {
+      with mm when (true) { if (f == nil) { x = new(); } else { x = f; f = x->tl; } }
+    } [x|->]";
+
+#[test]
+fn a_resource_begins_with_its_own(rt: HostRuntime) -> Result<(), Fail> {
+    let alloc = rt.alloc();
+    let p = fitted(alloc, KEPT_CELLS).expect(&rt, "a program");
+    let text = b"x = nil\nmm.f = @1\n@1 tl=@2\n@2";
+    let begun = begin_part(alloc, &p, "alloc", text, 9)?.expect(&rt, "a start");
+    let Begun {
+        mut part,
+        mut contents,
+        ..
+    } = begun;
+    assert_eq!(rt; part.task(), TaskPath::entry());
+    assert_eq!(rt; part.given(), 9);
+    assert!(rt; part.has_unit());
+    assert_eq!(rt; contents.len(), 1);
+    let told = own_steps(&mut part, &p.program)?;
+    assert_eq!(rt; told, Some((0, Local::AtRegion(ResId(0)))));
+    let content = contents.pop().expect(&rt, "a content");
+    assert_eq!(rt; content.resource(), ResId(0));
+    let (store, heap) = content.into_parts();
+    assert_eq!(rt; store.find(Spot::Shared(ResId(0), 0)), Some(Value::Loc(1)));
+    assert_eq!(rt; store.find(Spot::Own(0, 0)), None);
+    assert_eq!(rt; heap.len(), 2);
+    assert_eq!(rt; field(&heap, 1, 1), Some(Value::Loc(2)));
+    Ok(())
+}
+
+#[test]
+fn a_fresh_run_begins_with_all(rt: HostRuntime) -> Result<(), Fail> {
+    let alloc = rt.alloc();
+    let file = b"resource mm (f) [list(f)] init() { f = nil; } stay(x) [x|->] { } [x|->]";
+    let p = fitted(alloc, file).expect(&rt, "a program");
+    let begun = begin_part(alloc, &p, "stay", b"x = @4\n@4", 5)?.expect(&rt, "a start");
+    let Begun {
+        mut part,
+        contents,
+        ..
+    } = begun;
+    assert_eq!(rt; contents.len(), 0);
+    let told = own_steps(&mut part, &p.program)?;
+    assert_eq!(rt; told, Some((1, Local::AtInit)));
+    Ok(())
+}
