@@ -60,7 +60,8 @@ impl<'p> Part<'p> {
         requires may { MayEnter (part_of self.old) (content_of content) }
         requires spots { HasSpots spots.now content }
         requires room { HasLogRoom self.old }
-        ensures ok { OnOk result ((number : ℕ) × (numbers self.old.supply ≡ number ∷ drop 1 (numbers self.old.supply))
+        ensures ok { OnOk result ((number : ℕ)
+            × (numbers self.old.supply ≡ number ∷ drop 1 (numbers self.old.supply))
             × IsEntered number content self.old self.new) }
         ensures err { OnErr result (part_of self.new ≡ part_of self.old) }
         ensures content_returned { IfErr result (λ back. back ≡ content) }
