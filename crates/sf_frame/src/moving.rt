@@ -12,6 +12,16 @@ use crate::store::Store;
 use std::alloc::{AllocError, Global};
 
 impl Store {
+    /// The same slots, with the values that they have here. An `Err` says that memory ran out.
+    pub fn copy(&self, alloc: Global) -> Result<Store, AllocError>
+        ensures { IfOk result
+            (λ copy. (slot : Slot) → store_of copy slot ≡ store_of self.now slot) }
+    {
+        let mut copy = Store::new(alloc);
+        copy.take_over(self)?;
+        Ok(copy)
+    }
+
     /// A store of just those slots, those of them that are there, with the values that they have
     /// here. Nothing moves yet: with one such store for each set that is to move, `cut` takes all of
     /// them out and wants no memory. An `Err` says that memory ran out.

@@ -1,11 +1,9 @@
 -- Calls and returns keep what is owned.
 -- Names: the event's.
-use Rattle.std.specs.Prelude.{◌≡◌, ℕ, suc, Bool, true, false, cond, List, [], ◌∷◌, Option, Some, None, ◌==◌, ◌&&◌, ◌+◌, ◌-◌, ◌<◌, ◌≤◌, leb, ltb, length}
-use Rattle.std.proofs.Common.{sym, ap, ap₂, ◌∙◌, refl, subst, arith}
-use Rattle.std.proofs.lemmas.Bool.Decides.{nat_tests}
-use Rattle.sf_base.specs.declared.ids.Var.TheVariants.{Own as OwnVar}
+use Rattle.std.specs.Prelude.{◌≡◌, ℕ, suc, Bool, true, false, cond, List, [], ◌∷◌, Option, Some, None, ◌&&◌, ltb, length}
+use Rattle.std.proofs.Common.{sym, ap, ap₂, ◌∙◌, refl, subst}
 use Rattle.sf_base.specs.declared.place.Place.{Place}
-use Rattle.sf_base.specs.HeapStore.{Slot, shared, own}
+use Rattle.sf_base.specs.HeapStore.{Slot}
 use Rattle.sf_base.specs.declared.ids.ResId.{ResId}
 use Rattle.sf_base.proofs.MapSplits.{splits-has_left, splits-lacks_both, splits-lacks_right}
 use Rattle.sf_base.proofs.Options.{cond-some, some-none}
@@ -15,48 +13,18 @@ use Rattle.sf_core.specs.Program.Formed.{IsFormed}
 use Rattle.sf_core.specs.Program.Init.{is_init, sets_up}
 use Rattle.sf_core.specs.Program.Syntax.{Call, call, Procedure, Program}
 use Rattle.sf_core.proofs.Inits.{sets_up-is}
-use Rattle.sf_safe.specs.Checked.Own.{Own, Parts, HasSlot, everything, new_slots, nothing, without_room}
-use Rattle.sf_safe.specs.Checked.Contract.{Known, Ended, OwnsVariables, Returned, given_back}
+use Rattle.sf_safe.specs.Checked.Own.{Own, Parts, everything, new_slots, nothing, without_room}
+use Rattle.sf_safe.specs.Checked.Contract.{Known, Ended, Returned, given_back}
 use Rattle.sf_safe.specs.Checked.Safe.{Safe, callee}
 use Rattle.sf_safe.specs.Checked.Invariant.{known, Callers, Running, Tree, Resources}
 use Rattle.sf_safe.specs.Checked.Law.{BodiesAreSafe}
-use Rattle.sf_safe.proofs.Events.{After}
+use Rattle.sf_safe.specs.Checked.LawsOfShares.{After}
 use Rattle.sf_safe.proofs.Freed.{freed-resources, resources-nothing}
-use Rattle.sf_safe.proofs.Owns.{Sums, front, group, opened, order, parts-comm, parts-of_nothing, parts-open_room, parts-without_room, two}
-use Rattle.sf_safe.proofs.Seen.{seen-arguments}
+use Rattle.sf_safe.specs.Checked.Owns.{Sums, front, group, opened, order, parts-comm, parts-of_nothing, parts-open_room, parts-without_room, two}
+use Rattle.sf_safe.specs.Checked.Rooms.{owned-room}
+use Rattle.sf_safe.specs.Checked.Seen.{seen-arguments}
 use Rattle.sf_safe.proofs.Shuffles.{after-back, after-call}
-use Rattle.sf_safe.proofs.Trees.{fewer, fewer-callers}
-
--- THE ROOM of a frame
-
--- a slot of a room, by its number in it
-pub room-index : (d e i first count references names : ℕ)
-    → (d == e) && (leb first i && ltb i (first + count)) ≡ true
-    → count ≡ names - references
-    → (d ≡ e) × (references ≤ references + (i - first)) × (references + (i - first) < names)
-    × (first + (references + (i - first) - references) ≡ i)
-room-index d e i first count references names h c = (
-  grind (arith, nat_tests, h),
-  omega arith,
-  let a : leb first i ≡ true = grind (arith, nat_tests, h) in
-      let b : ltb i (first + count) ≡ true = grind (arith, nat_tests, h) in
-      let l : first ≤ i = grind (arith, nat_tests, a) in
-      let m : i < first + count = grind (arith, nat_tests, b) in
-      omega (arith, l, m, c),
-  let a : leb first i ≡ true = grind (arith, nat_tests, h) in
-      let l : first ≤ i = grind (arith, nat_tests, a) in
-      omega (arith, l),
-)
-
--- a frame owns the slots of its room
-pub owned-room : (p : Program) (k : Known) (g : Procedure) (w : Own) → OwnsVariables p k g w → (slot : Slot)
-    → in_room k.fixed.room slot ≡ true → HasSlot w slot
-owned-room p k g w o (shared r i) h = absurd (cc)
-owned-room p k g w o (own e i) h =
-    let room = k.fixed.room in
-    let a = room-index e room.event i room.first room.count g.references (length g.names) h o.frame.count in
-    let j = g.references + (i - room.first) in
-    subst (HasSlot w) (o.frame.own_slots j a.1 a.2 ∙ ap₂ own (sym a.0) a.3) (o.variables.each (OwnVar j) a.2)
+use Rattle.sf_safe.specs.Checked.Fewer.{fewer, fewer-callers}
 
 module _ (p : Program) (n : ℕ) (owed : Known) (f : Frame) (below : List Frame) (s t : Common) (task : Task)
     (u r e : Own) (sums : Sums (everything p s) (u ∷ r ∷ e ∷ []))

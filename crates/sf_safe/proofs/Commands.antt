@@ -18,8 +18,8 @@ use Rattle.sf_core.specs.Program.Syntax.{assign, look_up, mutate, new, dispose, 
 use Rattle.sf_safe.specs.Checked.Own.{Own, Parts, everything, put_cell, put_slot}
 use Rattle.sf_safe.specs.Checked.Contract.{Known, see}
 use Rattle.sf_safe.specs.Checked.Safe.{Safe, Branches}
-use Rattle.sf_safe.proofs.Owns.{parts-new_cell, parts-put_cell, parts-put_slot}
-use Rattle.sf_safe.proofs.Seen.{seen-cell, seen-test, seen-value}
+use Rattle.sf_safe.specs.Checked.Owns.{parts-new_cell, parts-put_cell, parts-put_slot}
+use Rattle.sf_safe.specs.Checked.Seen.{seen-cell, seen-test, seen-value}
 
 -- after such an event: the frame's items, its share beside the rest r, and that it is safe for one event less;
 -- nobody enters or leaves a region, and no slot comes up

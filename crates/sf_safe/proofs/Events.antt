@@ -8,26 +8,19 @@ use Rattle.sf_safe.specs.Checked.Own.{Own, Parts, everything}
 use Rattle.sf_safe.specs.Checked.Contract.{Known}
 use Rattle.sf_safe.specs.Checked.Safe.{Safe}
 use Rattle.sf_safe.specs.Checked.Invariant.{known, Running, Tree, Resources}
+use Rattle.sf_safe.specs.Checked.LawsOfShares.{After}
 use Rattle.sf_safe.proofs.Commands.{Moved}
-use Rattle.sf_safe.proofs.Owns.{Sums, front, group, opened, two}
-use Rattle.sf_safe.proofs.Trees.{fewer-callers}
+use Rattle.sf_safe.specs.Checked.Owns.{Sums, front, group, opened, two}
+use Rattle.sf_safe.specs.Checked.Fewer.{fewer-callers}
 
 module _ (p : Program) where
-  -- after the event: the task's new share and that of the free resources, with what they are safe for
-  pub record After (n : ℕ) (owed : Known) (t : Common) (u : Task) (r : Own) : Type 0 where
-    pub part : Own
-    pub free : Own
-    pub sums : Sums (everything p t) (part ∷ r ∷ free ∷ [])
-    pub tree : Tree p n owed u part
-    pub resources : Resources p t.held 0 p.resources free
-
   -- an event of the innermost frame alone leaves its callers' shares, and the resources, as they are
   pub alone : (n : ℕ) (owed : Known) (f : Frame) (below : List Frame) (todo : List Item) (s t : Common) (task : Task)
       (u r e : Own) → f.todo ≡ todo → Sums (everything p s) (u ∷ r ∷ e ∷ [])
       → Running p (suc n) owed (f ∷ below) u → Resources p s.held 0 p.resources e
       → ((values : ℕ → _) (share rest : Own) → Parts (everything p s) share rest
       → Safe p (suc n) (known f values) todo share → Moved p n (known f values) below s t task rest)
-      → After n owed t task r
+      → After p n owed t task r
   alone n owed f below todo s t task u r e i a (v, k) free moves =
       let b = opened (k.left ∷ k.right ∷ []) (r ∷ e ∷ []) a (two k.parts) in
       let m = moves v k.left b.0 b.1 (subst (λ z. Safe p (suc n) (known f v) z k.left) i k.first) in

@@ -51,7 +51,7 @@ use Rattle.sf_safe.specs.Checked.Contract.{Ended, Entered, FreeShare, IsVariable
 use Rattle.sf_safe.specs.Checked.Examples.{FillingTwiceIsSound, fills, filling_twice, twice}
 use Rattle.sf_safe.specs.Checked.Law.{BodiesAreSafe, SafeProgramsAreSound}
 use Rattle.sf_safe.specs.Checked.Safe.{Enters, Forks, Safe, callee}
-use Rattle.sf_safe.proofs.Owns.{own-same, parts-comm, parts-nothing, parts-of_nothing, parts-put_cell}
+use Rattle.sf_safe.specs.Checked.Owns.{own-same, parts-comm, parts-nothing, parts-of_nothing, parts-put_cell}
 use Rattle.sf_safe.proofs.Sound.{safe_programs_are_sound}
 
 -- the program's two procedures

@@ -12,11 +12,11 @@ use Rattle.sf_safe.specs.Checked.Safe.{Safe, callee}
 use Rattle.sf_safe.specs.Checked.Contract.{Known}
 use Rattle.sf_safe.specs.Checked.Invariant.{known, Running, Tree, Resources}
 use Rattle.sf_safe.specs.Checked.Law.{BodiesAreSafe}
-use Rattle.sf_safe.proofs.Events.{After}
-use Rattle.sf_safe.proofs.Owns.{Sums, front, opened, order, parts-comm, parts-nothing, parts-open_room, two}
-use Rattle.sf_safe.proofs.Seen.{seen-arguments}
+use Rattle.sf_safe.specs.Checked.LawsOfShares.{After}
+use Rattle.sf_safe.specs.Checked.Owns.{Sums, front, opened, order, parts-comm, parts-nothing, parts-open_room, two}
+use Rattle.sf_safe.specs.Checked.Seen.{seen-arguments}
 use Rattle.sf_safe.proofs.Shuffles.{after-back, after-fork}
-use Rattle.sf_safe.proofs.Trees.{fewer, fewer-callers}
+use Rattle.sf_safe.specs.Checked.Fewer.{fewer, fewer-callers}
 
 module _ (p : Program) (n : ℕ) (owed : Known) (s t : Common) (task : Task) (u r e : Own)
     (sums : Sums (everything p s) (u ∷ r ∷ e ∷ [])) (free : Resources p s.held 0 p.resources e) where

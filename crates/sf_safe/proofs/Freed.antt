@@ -16,10 +16,8 @@ use Rattle.sf_base.proofs.HeapSplits.{at-self}
 use Rattle.sf_base.proofs.Options.{some-none}
 use Rattle.sf_calls.specs.Checked.Lemmas.InFile.{free_within}
 use Rattle.sf_calls.specs.Checked.Lemmas.Within.{level_within}
-use Rattle.sf_core.specs.Assertions.Occurs.{VarOccursIn}
 use Rattle.sf_core.specs.Checked.GoodParts.{SatEach}
 use Rattle.sf_core.specs.Machine.Config.{Path, evaluate, in_room}
-use Rattle.sf_core.specs.Machine.Good.{owed_by}
 use Rattle.sf_core.specs.Machine.Start.{Invariants, entry_slot}
 use Rattle.sf_core.specs.Program.Formed.{IsFormed, IsOfResource, variable_count}
 use Rattle.sf_core.specs.Program.Init.{IsBare, is_init}
@@ -27,9 +25,10 @@ use Rattle.sf_core.specs.Program.Syntax.{Procedure, Program, Resource}
 use Rattle.sf_core.proofs.Assertions.Sat.{sat-same_variables}
 use Rattle.sf_core.proofs.Inits.{owed_by-invariants}
 use Rattle.sf_safe.specs.Checked.Own.{Own, Parts, nothing, without_room}
-use Rattle.sf_safe.specs.Checked.Contract.{Ended, FreeShare, IsVariableOf, Known, see}
+use Rattle.sf_safe.specs.Checked.Contract.{Ended, IsVariableOf, Known, see}
 use Rattle.sf_safe.specs.Checked.Invariant.{Resources, ShareOf}
-use Rattle.sf_safe.proofs.Owns.{own-same, parts-of_nothing}
+use Rattle.sf_safe.specs.Checked.LawsOfShares.{InitLeavesShares}
+use Rattle.sf_safe.specs.Checked.Owns.{own-same, parts-of_nothing}
 use Rattle.sf_safe.proofs.Settled.{HasVariable, from, rest_share, settled-resources}
 
 -- shares without a token are none
@@ -180,3 +179,7 @@ module _ (p : Program) (formed : IsFormed p) (k : Known) (w : Own) (e : Ended p 
   freed-resources = subst (Resources p (λ r. None) 0 p.resources) (sym freed-is)
       (settled-resources p formed w.slots freed-kept freed-no_more 0 p.resources w.cells (zero-plus (length p.resources))
       (λ i q h. subst (λ z. slice_get p.resources z ≡ Some q) (zero-plus i) h) freed-invariants)
+
+pub init_leaves_shares : InitLeavesShares
+unfolding InitLeavesShares
+init_leaves_shares = freed-resources

@@ -1,20 +1,17 @@
 -- What is owned is good.
 -- Names: `sat-WHAT` carries an assertion from a share to the whole; `parts-WHAT` speaks of sf_core's parts.
-use Rattle.std.specs.Prelude.{◌≡◌, ◌≢◌, ℕ, suc, Bool, true, false, cond, List, [], ◌∷◌, Option, Some, None, ◌⊎◌, ◌==◌, ◌&&◌, ◌<◌, ◌≤◌, ◌+◌, length, ltb}
+use Rattle.std.specs.Prelude.{◌≡◌, ◌≢◌, ℕ, suc, Bool, true, false, cond, List, [], ◌∷◌, Option, Some, None, ◌⊎◌, ◌==◌, ◌&&◌, ◌<◌, ◌+◌, length, ltb}
 use Rattle.std.specs.List.{slice_get}
 use Rattle.std.specs.Option.{option_or, unwrap_or}
 use Rattle.std.proofs.Common.{sym, ap, ap₂, ◌∙◌, refl, subst, inl, inr, arith}
 use Rattle.std.proofs.lemmas.Bool.Decides.{nat_tests}
 use Rattle.std.proofs.lemmas.Option.{same_Some, slice_get_within}
-use Rattle.sf_base.specs.declared.ids.ProcId.{ProcId}
 use Rattle.sf_base.specs.declared.ids.ResId.{ResId}
 use Rattle.sf_base.specs.declared.ids.Var.{Var}
-use Rattle.sf_base.specs.declared.ids.Var.TheVariants.{Own as OwnVar, Shared}
 use Rattle.sf_base.specs.declared.value.Value.TheVariants.{Nil as nil}
 use Rattle.sf_base.specs.HeapStore as heaps
-use Rattle.sf_base.specs.HeapStore.{Heap, IsEmpty, Slot, Splits}
+use Rattle.sf_base.specs.HeapStore.{Heap, Slot, Splits}
 use Rattle.sf_base.proofs.MapSplits.{empty-holds, splits-assoc_right, splits-comm, splits-cross, splits-empty_right, splits-has_left}
-use Rattle.sf_base.proofs.HeapSplits.{star-map_left}
 use Rattle.sf_base.proofs.StoreSplits.{resource-same}
 use Rattle.sf_calls.specs.Checked.Lemmas.Within.{level_within}
 use Rattle.sf_core.specs.declared.command.Expr.{Expr}
@@ -25,20 +22,19 @@ use Rattle.sf_core.specs.Machine.Config.{Item, Frame, Task, runs, waits, Path, C
 use Rattle.sf_core.specs.Machine.Enabled.{HasEnded}
 use Rattle.sf_core.specs.Machine.Good.{Good, owed_by}
 use Rattle.sf_core.specs.Machine.Start.{entry_slot}
-use Rattle.sf_core.specs.Machine.Step.{procedure_at}
 use Rattle.sf_core.specs.Program.Formed.{IsFormed, IsOfResource}
 use Rattle.sf_core.specs.Program.Init.{is_init, sets_up}
-use Rattle.sf_core.specs.Program.Syntax.{Level, Procedure, Program, Resource}
+use Rattle.sf_core.specs.Program.Syntax.{Level, Program, Resource}
 use Rattle.sf_core.proofs.Assertions.Sat.{sat-same_variables}
 use Rattle.sf_core.proofs.Inits.{sets_up-is}
 use Rattle.sf_core.proofs.Machine.GoodParts.{good-by_parts}
 use Rattle.sf_safe.specs.Checked.Own.{Own, Parts, HasSlot, everything}
-use Rattle.sf_safe.specs.Checked.Contract.{Known, Ended, FreeShare, IsVariableOf}
+use Rattle.sf_safe.specs.Checked.Contract.{Known, Ended, FreeShare}
 use Rattle.sf_safe.specs.Checked.Safe.{Safe}
 use Rattle.sf_safe.specs.Checked.Invariant.{known, HasFrame, IsOwned, Resources, ShareOf, Tree}
 use Rattle.sf_safe.proofs.NeverBad.{never-bad}
 use Rattle.sf_safe.proofs.Owed.{each-map, owed-variable}
-use Rattle.sf_safe.proofs.Owns.{opened, order, parts-comm, parts-of_nothing, parts-right, two}
+use Rattle.sf_safe.specs.Checked.Owns.{opened, order, parts-comm, parts-of_nothing, parts-right, two}
 
 -- an assertion whose variables are owned means in the share what it means in all that there is
 sat-everywhere : (a : Level Expr) (slots : Var → Slot) (all w r : Own) (heap : Heap) → Parts all w r

@@ -1,6 +1,6 @@
 -- Every event keeps what is owned.
 -- Names: `room-LAW` speaks of new slots, `step-LAW` of one event, `reach-LAW` of a list of them.
-use Rattle.std.specs.Prelude.{◌≡◌, ◌≢◌, ℕ, suc, Bool, true, false, cond, List, [], ◌∷◌, ◌++◌, Option, Some, None, ◌⊎◌, ◌==◌, ◌+◌, ◌-◌, ◌&&◌, leb, ltb, ◌||◌}
+use Rattle.std.specs.Prelude.{◌≡◌, ◌≢◌, ℕ, suc, Bool, true, false, cond, List, [], ◌∷◌, ◌++◌, Option, Some, None, ◌⊎◌, ◌==◌, ◌-◌, ◌||◌}
 use Rattle.std.proofs.Common.{true≢false, sym, ap, ◌∙◌, refl, subst, arith, inl, inr}
 use Rattle.std.proofs.lemmas.Bool.Decides.{nat_tests}
 use Rattle.std.proofs.lemmas.Option.{same_Some}
@@ -20,45 +20,15 @@ use Rattle.sf_safe.specs.Checked.Invariant.{known, Tree, Resources, HasFrame, Is
 use Rattle.sf_safe.specs.Checked.Law.{BodiesAreSafe}
 use Rattle.sf_safe.proofs.Calls.{called, frame-returned}
 use Rattle.sf_safe.proofs.Commands.{assigned, disposed, looked_up, made, mutated, tested, Moved}
-use Rattle.sf_safe.proofs.Events.{After, alone}
+use Rattle.sf_safe.proofs.Events.{alone}
+use Rattle.sf_safe.specs.Checked.LawsOfShares.{After, EventsKeepShares}
+use Rattle.sf_safe.specs.Checked.Rooms.{AllMade, first-true, room-apart, room-fresh}
 use Rattle.sf_safe.proofs.Forks.{forked, joined}
-use Rattle.sf_safe.proofs.Owns.{Sums, group, opened, pair, parts-right, two}
+use Rattle.sf_safe.specs.Checked.Owns.{Sums, group, opened, pair, parts-right, two}
 use Rattle.sf_safe.proofs.Regions.{entered, exited}
 use Rattle.sf_safe.proofs.Trees.{focus}
 
 -- NEW SLOTS
-
--- the number of each slot that an event made has been used
-abbrev pub AllMade : (ℕ → Type 0) → Slot → Type 0
-AllMade used (shared r i) = Unit {0}
-AllMade used (own event i) = used event
-
-first-true : (a b : ℕ) (t : Bool) → (a == b) && t ≡ true → a ≡ b
-first-true a b t h = grind (arith, nat_tests)
-
-apart-ranges : (g e k a b : ℕ) → (g == e) && (leb a k && ltb k (a + b)) ≡ true
-    → (g == e) && (leb 0 k && ltb k (0 + a)) ≡ false
-apart-ranges g e k a b h = grind (arith, nat_tests)
-
--- the slots of a room of a number that wasn't used aren't there
-room-fresh : (s : Common) (used : ℕ → Type 0) (room : Room)
-    → ((slot : Slot) → s.store slot ≢ None → AllMade used slot) → (used room.event → ⊥) → (slot : Slot)
-    → in_room room slot ≡ true → s.store slot ≡ None
-room-fresh s used room a n (shared q k) i = absurd (cc)
-room-fresh s used room a n (own e k) i = go (s.store (own e k)) refl
-  where
-    go : (v : Option Value) → s.store (own e k) ≡ v → v ≡ None
-    go None j = refl
-    go (Some v) j =
-        let there : s.store (own e k) ≢ None = λ z. let y : Some v ≡ None = sym j ∙ z in absurd (cc) in
-        absurd (n (subst used (first-true e room.event _ i) (a (own e k) there)))
-
--- the two rooms of a fork have different slots
-room-apart : (g h : Procedure) (event : ℕ) (slot : Slot)
-    → in_room (room_for h event (room_count g)) slot ≡ true
-    → in_room (room_for g event 0) slot ≡ false
-room-apart g h e (shared q k) i = refl
-room-apart g h e (own d k) i = apart-ranges d e k (room_count g) (room_count h) i
 
 -- the slots after an event were there, or are the event's
 abbrev Grows : ℕ → Common → Common → Type 0
@@ -188,6 +158,18 @@ module _ (p : Program) where
       go (command (while place test kept body) ∷ rest) i x = mine _ i
           (λ safe. tested p n (known f v) ev below rest s t after k.left k-parts.0 k-parts.1 test
           (items body ++ (command (while place test kept body) ∷ rest)) rest safe x.0 x.1)
+
+-- no slot that is there is of a number that none of them has
+other-made : (s : Common) (number : ℕ) → ((index : ℕ) → s.store (own number index) ≡ None) → (slot : Slot)
+    → s.store slot ≢ None → AllMade (λ e. e ≡ number → ⊥) slot
+other-made s number none (shared r i) h = tt
+other-made s number none (own e i) h = λ same. h (ap (λ z. s.store (own z i)) same ∙ none i)
+
+pub events_keep_shares : EventsKeepShares
+unfolding EventsKeepShares
+events_keep_shares p formed bodies n owed ev before after s t u r e none sums tree free steps =
+    event p formed bodies n owed ev before after s t (λ m. m ≡ ev.number → ⊥) u r e (other-made s ev.number none)
+    (λ h. h refl) sums tree free steps
 
 -- CONFIGURATIONS
 

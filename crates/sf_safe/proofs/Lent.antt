@@ -36,7 +36,7 @@ use Rattle.sf_safe.specs.Checked.Own.{HasSlot, Own, Parts, new_slots, without_ro
 use Rattle.sf_safe.specs.Checked.Contract.{Ended, Entered, IsVariableOf, Known, Returned, given_back, see, tokens_of, value_of}
 use Rattle.sf_safe.specs.Checked.Local.{ComesBack, Fits, HasJustVars, Local, callee_value, own_value, value_in}
 use Rattle.sf_safe.specs.Checked.Safe.{callee}
-use Rattle.sf_safe.proofs.Calls.{room-index}
+use Rattle.sf_safe.specs.Checked.Rooms.{room-index}
 use Rattle.sf_safe.proofs.Views.{IsSeen}
 
 -- OWN VARIABLES of a callee: a reference, or one of its room

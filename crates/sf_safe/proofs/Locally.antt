@@ -26,7 +26,7 @@ use Rattle.sf_core.proofs.Assertions.Sat.{sat-same_variables}
 use Rattle.sf_safe.specs.Checked.Own.{HasSlot, Own, put_cell, put_slot}
 use Rattle.sf_safe.specs.Checked.Contract.{Ended, FreeShare, IsFrameOf, IsVariableOf, Known, OwnsVariables, SetsVariableUp, see, value_of}
 use Rattle.sf_safe.specs.Checked.Local.{Begins, ComesBack, Ends, HasVar, IsShare, Lends, Local, LocalParts, look, put_local, put_variable, value_in}
-use Rattle.sf_safe.specs.Checked.LocalSafe.{BodiesAreLocallySafe, HasCell, LocalSafe, LocallySafeProgramsAreSound}
+use Rattle.sf_safe.specs.Checked.LocalSafe.{LocallySafeBodiesAreSafe, BodiesAreLocallySafe, HasCell, LocalSafe, LocallySafeProgramsAreSound}
 use Rattle.sf_safe.specs.Checked.Law.{BodiesAreSafe, SafeProgramsAreSound}
 use Rattle.sf_safe.specs.Checked.Safe.{OwnsCell, Safe}
 use Rattle.sf_safe.proofs.Owed.{each-map, owed-variable}
@@ -483,6 +483,10 @@ local-bodies p formed a k g there n w e =
     (a k.fixed.procedure e.procedure e.owns.frame.there k.values n
     (entry-view p formed k e.procedure e.owns.frame w e.owns)
     (entry-begins p formed k e.procedure e.owns.frame w e.owns e.locals e.unset e.pre)))
+
+pub locally_safe_bodies_are_safe : LocallySafeBodiesAreSafe
+unfolding LocallySafeBodiesAreSafe
+locally_safe_bodies_are_safe = local-bodies
 
 pub locally_safe_programs_are_sound : LocallySafeProgramsAreSound
 unfolding LocallySafeProgramsAreSound SafeProgramsAreSound

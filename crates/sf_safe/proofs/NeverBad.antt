@@ -23,10 +23,10 @@ use Rattle.sf_safe.specs.Checked.Own.{Own, Parts, HasAll, HasExpr, HasSlot, HasT
 use Rattle.sf_safe.specs.Checked.Contract.{Known}
 use Rattle.sf_safe.specs.Checked.Safe.{Safe, OwnsCell}
 use Rattle.sf_safe.specs.Checked.Invariant.{known, IsOwned, Resources, Running, Tree}
-use Rattle.sf_safe.proofs.Calls.{owned-room}
-use Rattle.sf_safe.proofs.Owns.{Sums, group, opened, order, parts-comm, single, two}
+use Rattle.sf_safe.specs.Checked.Rooms.{owned-room}
+use Rattle.sf_safe.specs.Checked.Owns.{Sums, group, opened, order, parts-comm, single, two}
 use Rattle.sf_safe.proofs.Regions.{resources-take}
-use Rattle.sf_safe.proofs.Seen.{seen-value}
+use Rattle.sf_safe.specs.Checked.Seen.{seen-value}
 use Rattle.sf_safe.proofs.Trees.{focus}
 
 -- the variable or the cell is owned

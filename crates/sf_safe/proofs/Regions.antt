@@ -15,11 +15,11 @@ use Rattle.sf_safe.specs.Checked.Own.{Own, Parts, everything, nothing}
 use Rattle.sf_safe.specs.Checked.Contract.{Known, FreeShare}
 use Rattle.sf_safe.specs.Checked.Safe.{Safe}
 use Rattle.sf_safe.specs.Checked.Invariant.{known, Running, Tree, ShareOf, Resources}
-use Rattle.sf_safe.proofs.Events.{After}
-use Rattle.sf_safe.proofs.Owns.{Sums, opened, order, parts-comm, parts-nothing, parts-of_nothing, parts-right, two}
-use Rattle.sf_safe.proofs.Seen.{seen-test}
+use Rattle.sf_safe.specs.Checked.LawsOfShares.{After}
+use Rattle.sf_safe.specs.Checked.Owns.{Sums, opened, order, parts-comm, parts-nothing, parts-of_nothing, parts-right, two}
+use Rattle.sf_safe.specs.Checked.Seen.{seen-test}
 use Rattle.sf_safe.proofs.Shuffles.{after-entry, after-exit}
-use Rattle.sf_safe.proofs.Trees.{fewer-callers}
+use Rattle.sf_safe.specs.Checked.Fewer.{fewer-callers}
 
 -- who holds the resources when one of them changes hands
 abbrev pub now : (ResId → Option Path) → ResId → Option Path → ResId → Option Path

@@ -1,10 +1,9 @@
 -- A program whose resource is set up first: it is formed, meets the conditions, and its bodies are safe; and one that leaves
 -- the invariant unmet isn't sound.
 -- Names: `formed-WHAT`, `conditions-WHAT`, `safe-WHAT`; the law's.
-use Rattle.std.specs.Prelude.{◌≡◌, ◌≢◌, ◌⊎◌, ℕ, zero, suc, Bool, slice_get, true, false, cond, [], ◌∷◌, Contains, Option, Some, None, codes, ◌==◌, ◌<◌, ◌≤◌, length}
+use Rattle.std.specs.Prelude.{◌≡◌, ◌⊎◌, ℕ, zero, suc, Bool, slice_get, true, false, cond, [], ◌∷◌, Contains, Some, codes, ◌<◌, ◌≤◌}
 use Rattle.std.specs.Option.{unwrap_or}
 use Rattle.std.proofs.Common.{true≢false, sym, ap, ◌∙◌, refl, subst, inl, inr, arith}
-use Rattle.std.proofs.lemmas.Bool.{cond-true}
 use Rattle.std.proofs.lemmas.Option.{none-some, same_Some}
 use Rattle.sf_base.specs.declared.ids.ProcId.{ProcId}
 use Rattle.sf_base.specs.declared.ids.ResId.{ResId}
@@ -15,7 +14,7 @@ use Rattle.sf_base.specs.declared.value.Value.TheVariants.{Loc as loc, Nil as ni
 use Rattle.sf_base.specs.HeapStore.{Cell, IsEmpty, IsOne, Slot, same_slot}
 use Rattle.sf_base.proofs.Elements.{contains-nil, contains-single}
 use Rattle.sf_base.proofs.HeapSplits.{put-elsewhere, put-here, star-empty_right}
-use Rattle.sf_base.proofs.StoreSplits.{resource-is, slot-self, slot-which}
+use Rattle.sf_base.proofs.StoreSplits.{slot-self, slot-which}
 use Rattle.sf_calls.specs.declared.breach.Breach.{Breach}
 use Rattle.sf_calls.specs.declared.breach.Breach.TheVariants.{NotHeld, ParallelShares, Reentered, ReferenceIsFree, SameReference}
 use Rattle.sf_calls.specs.Breaks.{Breaks, BreaksAt}
@@ -23,17 +22,17 @@ use Rattle.sf_calls.specs.FirstBreach.{Conditions}
 use Rattle.sf_calls.specs.Checked.Lemmas.Broken.{first_broken}
 use Rattle.sf_core.specs.Assertions.Sat.{Sat}
 use Rattle.sf_core.specs.Checked.GoodParts.{SatEach}
-use Rattle.sf_core.specs.Checked.Machine.Examples.{at_shared, emp, guarding, here, lock, one_cell_at, shared_in, shared_one, skip}
+use Rattle.sf_core.specs.Checked.Machine.Examples.{at_shared, emp, here, lock, shared_in, shared_one, skip}
 use Rattle.sf_core.specs.Checked.Machine.SettingUp.{FreshSkipStarts, UnmetInvariantsAreNotGood, first, fresh_start, makes_its_cell, makes_nothing, no_cells, set_up_by}
 use Rattle.sf_core.specs.declared.assertion.Scope.{Scope}
 use Rattle.sf_core.specs.declared.command.Occurrence.{Occurrence}
 use Rattle.sf_core.specs.Machine.Config.{items}
 use Rattle.sf_core.specs.Machine.Good.{owed_by}
 use Rattle.sf_core.specs.Machine.Step.{procedure_at}
-use Rattle.sf_core.specs.Program.Formed.{AssertionWithin, IsFormed, IsOfResource, ProcedureWithin}
+use Rattle.sf_core.specs.Program.Formed.{AssertionWithin, IsFormed, ProcedureWithin}
 use Rattle.sf_core.specs.Program.Heads.{Site, sites}
-use Rattle.sf_core.specs.Program.Init.{is_init, sets_up}
-use Rattle.sf_core.specs.Program.Syntax.{new, done, Procedure, Program, Resource}
+use Rattle.sf_core.specs.Program.Init.{is_init}
+use Rattle.sf_core.specs.Program.Syntax.{new, done, Procedure, Program}
 use Rattle.sf_core.proofs.Assertions.Scopes.{below-single, disjoint-single}
 use Rattle.sf_core.proofs.Inits.{sets_up-is}
 use Rattle.sf_core.proofs.Machine.Examples.Runs.{one-sat}

@@ -1,6 +1,6 @@
 -- The shares of free resources, from a store that has just their variables, and heaps that satisfy their invariants.
 -- Names: `settled-WHAT`.
-use Rattle.std.specs.Prelude.{◌≡◌, ◌≢◌, ℕ, suc, Bool, true, false, cond, List, [], ◌∷◌, Option, Some, None, ◌==◌, ◌<◌, ◌≤◌, ◌+◌, ◌&&◌, leb, length, ltb}
+use Rattle.std.specs.Prelude.{◌≡◌, ℕ, suc, Bool, true, false, cond, List, [], ◌∷◌, Option, Some, None, ◌==◌, ◌<◌, ◌≤◌, ◌+◌, ◌&&◌, leb, length, ltb}
 use Rattle.std.specs.List.{slice_get}
 use Rattle.std.specs.Option.{option_or, unwrap_or}
 use Rattle.std.proofs.Common.{sym, ap, ◌∙◌, refl, subst, arith}
@@ -23,7 +23,7 @@ use Rattle.sf_core.proofs.Assertions.Sat.{sat-same_variables}
 use Rattle.sf_safe.specs.Checked.Own.{Own, Parts, nothing}
 use Rattle.sf_safe.specs.Checked.Contract.{FreeShare}
 use Rattle.sf_safe.specs.Checked.Invariant.{Resources}
-use Rattle.sf_safe.proofs.Owns.{own-same}
+use Rattle.sf_safe.specs.Checked.Owns.{own-same}
 
 -- the resource has a variable of that number
 abbrev pub HasVariable : Program → ResId → ℕ → Type 0

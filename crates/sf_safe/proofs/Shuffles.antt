@@ -2,7 +2,7 @@
 -- Names: after-EVENT, with the parts as they are after it.
 use Rattle.std.specs.Prelude.{[], ◌∷◌}
 use Rattle.sf_safe.specs.Checked.Own.{Own, Parts}
-use Rattle.sf_safe.proofs.Owns.{Sums, group, order}
+use Rattle.sf_safe.specs.Checked.Owns.{Sums, group, order}
 
 -- after a call: new slots m, what the callee is given u, what its caller keeps v, the lower frames' q
 pub record AfterCall (w m u v q r e : Own) : Type 0 where

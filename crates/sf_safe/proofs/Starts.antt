@@ -34,7 +34,7 @@ use Rattle.sf_safe.specs.Checked.Contract.{Known, Entered, IsFrameOf, IsVariable
 use Rattle.sf_safe.specs.Checked.Invariant.{IsMadeBefore, IsOwned, Resources, ShareOf}
 use Rattle.sf_safe.specs.Checked.Law.{BodiesAreSafe}
 use Rattle.sf_safe.specs.Checked.Safe.{Safe}
-use Rattle.sf_safe.proofs.Owns.{parts-comm, parts-nothing, parts-of_nothing}
+use Rattle.sf_safe.specs.Checked.Owns.{parts-comm, parts-nothing, parts-of_nothing}
 use Rattle.sf_safe.proofs.Settled.{HasVariable, rest_share, settled-resources}
 use Rattle.sf_safe.proofs.Unheld.{unheld-is_not_free}
 

@@ -15,6 +15,7 @@ use Rattle.sf_core.specs.Machine.Step.{Finds, procedure_at}
 use Rattle.sf_core.specs.Program.Formed.{IsFormed}
 use Rattle.sf_core.specs.Program.Syntax.{Call, assign, look_up, mutate, new, dispose, if, while, call, fork, with, Procedure, Program}
 use Rattle.sf_core.specs.Machine.Sound.{IsSound}
+use Rattle.sf_safe.specs.Checked.Law.{BodiesAreSafe}
 use Rattle.sf_safe.specs.Checked.Local.{Begins, ComesBack, Ends, Fits, HasIn, HasInAll, HasInTest, HasVar, IsShare, Lends, Local, LocalParts, arguments_in, look, put_local, put_variable}
 
 -- the frame has the variable and the cell that a command needs
@@ -113,6 +114,10 @@ LocalSafe p (suc n) End (leave r ∷ rest) l = LocalLeaves p l r (LocalSafe p n 
 abbrev pub BodiesAreLocallySafe : Program → Type 0
 BodiesAreLocallySafe p = (f : ProcId) (g : Procedure) → procedure_at p f ≡ Some g → (values : ℕ → Value) (n : ℕ)
     (l : Local) → Begins p f g values l → LocalSafe p n (Ends p f values) (items g.body) l
+
+-- bodies that are safe, seen from inside, are safe
+unfoldable pub LocallySafeBodiesAreSafe : Type 0
+LocallySafeBodiesAreSafe = (p : Program) → IsFormed p → BodiesAreLocallySafe p → BodiesAreSafe p
 
 -- a program that is formed, meets the conditions on variables and whose bodies are safe, seen from inside, is sound
 unfoldable pub LocallySafeProgramsAreSound : Type 0
