@@ -1,10 +1,10 @@
 -- A part beside others that make up what is shared with it, and a step of it among them.
 -- Names: `beside-LAW`; `spent-LAW` speaks of the units that are left, `takes-LAW` of those that an
 -- event takes.
-use Rattle.std.specs.Prelude.{◌≡◌, ◌≢◌, ℕ, ◌+◌, ◌≤◌, ◌/◌, ◌==◌, false, List, [], ◌∷◌, ◌++◌, length, take, drop, map, Some, None, Contains}
+use Rattle.std.specs.Prelude.{◌≡◌, ◌≢◌, ℕ, ◌+◌, ◌*◌, ◌≤◌, ◌/◌, ◌==◌, false, List, [], ◌∷◌, ◌++◌, length, take, drop, map, Some, None, Contains}
 use Rattle.std.specs.List.{AllByRecursion}
 use Rattle.std.proofs.Common.{sym, ap, ap₂, ◌∙◌, refl, subst, inl, inr, arith}
-use Rattle.std.proofs.lemmas.List.{take-append-drop}
+use Rattle.std.proofs.lemmas.List.{length-drop, length-take, take-append-drop}
 use Rattle.sf_base.proofs.HeapSplits.{at-self}
 use Rattle.sf_base.specs.declared.ids.ResId.{ResId}
 use Rattle.sf_base.specs.HeapStore.{own}
@@ -202,6 +202,19 @@ takes-fork ev what us ws vs (f, below, place, one, two, rest, is) t =
     takes-next ev.number us left s
     ∙ ap (λ z. ev.number ∷ z) (sym (ap₂ (λ x y. x ++ y) a b
     ∙ take-append-drop (length left / 2) left))
+
+-- and each child has at most half of them
+pub takes-halves : (ev : Event) (what : Next) (us ws vs : List ℕ) → IsFork what
+    → NextTakes ev what (has us) (lent (has ws) (has vs))
+    → (2 * length ws ≤ length us) × (2 * length vs ≤ length us)
+takes-halves ev what us ws vs (f, below, place, one, two, rest, is) t =
+    let (left, s, e) = subst (λ z. NextTakes ev z (has us) (lent (has ws) (has vs))) is t in
+    let a : ws ≡ take (length left / 2) left = cc in
+    let b : vs ≡ drop (length left / 2) left = cc in
+    let all = ap length (takes-next ev.number us left s) in
+    let c = ap length a ∙ length-take (length left / 2) left in
+    let d = ap length b ∙ length-drop (length left / 2) left in
+    (omega (arith, all, c), omega (arith, all, d))
 
 -- a cell that an event makes is at its number
 pub takes-at : (p : Program) (ev : Event) (what : Next) (before after : Supply)

@@ -95,7 +95,7 @@ module _ (keeps : OrderKeepsMeaning) (determined : OrderedIsDetermined) (p : Pro
       }) lacks
 
 -- The locations that were found
-member-decides : (ls : List ℕ) (l : ℕ) → (is_member nat_eq ls l ≡ true → Contains ls l)
+pub member-decides : (ls : List ℕ) (l : ℕ) → (is_member nat_eq ls l ≡ true → Contains ls l)
     × (Contains ls l → is_member nat_eq ls l ≡ true)
 member-decides ls l = let d = is_member-Decides Decides-eqb ls l in (d.0, d.1)
 
@@ -106,7 +106,7 @@ all-member P (x ∷ xs) l a c = elim ((contains-cons x xs l).0 c) [
   | inr d ↦ all-member P xs l a.1 d
 ]
 
-distinct-apart : (xs ys : List ℕ) (l : ℕ) → IsDistinct nat_eq (xs ++ ys) → Contains xs l
+pub distinct-apart : (xs ys : List ℕ) (l : ℕ) → IsDistinct nat_eq (xs ++ ys) → Contains xs l
     → Contains ys l → ⊥
 unfolding IsDistinct
 distinct-apart [] ys l d c k = contains-nil l c

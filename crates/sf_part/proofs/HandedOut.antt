@@ -197,7 +197,7 @@ hands-held task after none r holder e =
 
 -- The part
 -- what isn't to be left has no exit
-exits-none : (r : ResId) (todo : List Item) → (Contains (inside todo) r → ⊥) → exits r todo ≡ 0
+pub exits-none : (r : ResId) (todo : List Item) → (Contains (inside todo) r → ⊥) → exits r todo ≡ 0
 exits-none r [] h = refl
 exits-none r (command c ∷ todo) h = exits-none r todo h
 exits-none r (leave q ∷ todo) h =

@@ -18,7 +18,7 @@ use Rattle.sf_part.proofs.Giving.{given-same}
 use Rattle.sf_part.proofs.Unions.{union-focus, union-swap}
 
 -- two tests of one fact are one
-test-same : (b d : Bool) (P : Type 0) → (b ≡ true) ↔ P → (d ≡ true) ↔ P → b ≡ d
+pub test-same : (b d : Bool) (P : Type 0) → (b ≡ true) ↔ P → (d ≡ true) ↔ P → b ≡ d
 test-same true d P h k = sym (k.1 (h.0 refl))
 test-same false true P h k = h.1 (k.0 refl)
 test-same false false P h k = refl

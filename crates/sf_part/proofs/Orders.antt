@@ -3,6 +3,7 @@
 use Rattle.std.specs.Prelude.{◌≡◌, ◌++◌, ℕ, zero, suc, List, [], ◌∷◌, None, Contains}
 use Rattle.std.proofs.Common.{sym, ap, ◌∙◌, refl, subst, inl, inr}
 use Rattle.sf_base.proofs.Elements.{contains-cons, contains-nil, contains-rest, contains-single_of}
+use Rattle.sf_base.specs.declared.ids.ProcId.{ProcId}
 use Rattle.sf_base.specs.declared.ids.ResId.{ResId}
 use Rattle.sf_base.specs.declared.ids.Var.{Var}
 use Rattle.sf_base.specs.declared.ids.Var.TheVariants.{Own, Shared}
@@ -20,9 +21,14 @@ use Rattle.sf_core.specs.Machine.Step.{Event, Does, TaskStep, callee_frame, own_
 use Rattle.sf_core.specs.Program.Heads.{head_calls, sites}
 use Rattle.sf_core.specs.Program.Syntax.{Block, Call, Command, assign, look_up, mutate, new, dispose, if, while, call, fork, with, Procedure, Program}
 use Rattle.sf_frame.specs.Checked.Nexts.{frames_with}
-use Rattle.sf_part.specs.Of.{AreInOrder, FrameIsOf, FramesAreOf, HasEntered, IsPassed, inside}
+use Rattle.sf_part.specs.Of.{AreInOrder, FrameIsOf, FramesAreOf, HasCalled, HasEntered, IsPassed, inside}
 use Rattle.sf_part.specs.Steps.{IsLocal, IsPrivate}
 use Rattle.sf_part.proofs.Sites.{inside-block, inside-items, sites-first}
+
+-- What a frame has called its procedure calls
+pub has-called : (p : Program) (g : Frame) (f : ProcId) → HasCalled p g f
+    → Calls p None g.fixed.procedure f
+has-called p g f (h, there, (s, m, (e, makes))) = (h, there, (s, m, (tt, makes)))
 
 -- Whatever else a frame has to do inside of the same regions
 pub order-on : (p : Program) (f : Fixed) (old todo : List Item) (below : List Frame)
@@ -105,6 +111,10 @@ module _ (p : Program) (store : Store) (f : Fixed) (c : Command) (d : Call) (h :
   pub order-calls : Calls p None f.procedure d.callee
   order-calls = (of.procedure, of.there, (_, here, (tt, (d, call, refl))))
 
+  -- the call is made inside of the regions that the caller still has to leave
+  pub order-called : HasCalled p (record { fixed = f; todo = rest }) d.callee
+  order-called = (of.procedure, of.there, (_, here, (refl, (d, call, refl))))
+
   passed : (n : ℕ) (r : ResId) (i : ℕ) → slots_of f.slots d room (Own n) ≡ shared r i
       → IsPassed p (Shared r i) d.callee
   passed n r i e =
@@ -185,7 +195,7 @@ order-local p ev s f below (call q c) rest t u l of h d =
       is = d.3;
       order = (
         order-callee p s.store f (call q c) c d.0 (room_for d.0 ev.number 0) rest made of h.0,
-        inl (order-calls p s.store f (call q c) c d.0 (room_for d.0 ev.number 0) rest made of h.0),
+        inl (order-called p s.store f (call q c) c d.0 (room_for d.0 ev.number 0) rest made of h.0),
         order-on p f (command (call q c) ∷ rest) rest below refl h,
       );
     }

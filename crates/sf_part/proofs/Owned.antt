@@ -24,7 +24,7 @@ use Rattle.sf_core.specs.Checked.Machine.InOrder.{exits, regions, throughout}
 use Rattle.sf_core.specs.declared.command.Occurrence.{Occurrence}
 use Rattle.sf_core.specs.Machine.Config.{Item, command, items, Room, in_room, Fixed, Frame, Task, runs, Common}
 use Rattle.sf_core.specs.Machine.Enabled.{variable, CommandReads, CommandWrites}
-use Rattle.sf_core.specs.Machine.Step.{Event, arguments, callee_frame, index_of, own_slot, open_room, procedure_at, returned, room_for, set_slot, slots_of, task_with, Does}
+use Rattle.sf_core.specs.Machine.Step.{Event, arguments, callee_frame, index_of, own_slot, open_room, procedure_at, returned, room_count, room_for, set_slot, slots_of, task_with, Does}
 use Rattle.sf_core.specs.Program.Formed.{HasCounts, CallWithin, CommandWithin, IsFormed, IsInBody, variable_count}
 use Rattle.sf_core.specs.Program.Heads.{call_occurrences, expr_occurrences, head_calls, head_occurrences, head_regions, occurrences_at, sites}
 use Rattle.sf_core.specs.Program.Init.{sets_up}
@@ -177,7 +177,7 @@ frames-grow p s t (f ∷ fs) g h = (
       (λ slot. grows-cond (in_room f.fixed.room slot) (s slot) (t slot) (g slot)) h.1,
 )
 
-grows-set : (slot : Slot) (v : Value) (s : Store)
+pub grows-set : (slot : Slot) (v : Value) (s : Store)
     → Grows s (λ other. cond (same_slot other slot) (Some v) (s other))
 grows-set slot v s other h = go (same_slot other slot)
   where
@@ -186,7 +186,7 @@ grows-set slot v s other h = go (same_slot other slot)
     go false = h
 
 -- A frame that goes on with other things to do
-goes-frame : (p : Program) (s t : Store) (f : Fixed) (old todo : List Item) → Grows s t
+pub goes-frame : (p : Program) (s t : Store) (f : Fixed) (old todo : List Item) → Grows s t
     → StandIn todo old
     → inside todo ≡ inside old → FrameIsOf p s (record { fixed = f; todo = old })
     → FrameIsOf p t (record { fixed = f; todo = todo })
@@ -267,14 +267,16 @@ own-there caller store room (x ∷ xs) (suc n) refs opens l =
     (omega (arith, l))
 
 -- a room that comes up is there, and so is what was there before
-opened-there : (room : Room) (v : ℕ → Value) (s : Common) (slot : Slot) → in_room room slot ≡ true
+pub opened-there : (room : Room) (v : ℕ → Value) (s : Common) (slot : Slot)
+    → in_room room slot ≡ true
     → is_some ((open_room room v s).store slot) ≡ true
 opened-there room v s slot h =
     let one = λ (b : Bool). is_some (cond b (Some (v (index_of slot - room.first)))
     (s.store slot)) in
     ap one h
 
-opened-grows : (room : Room) (v : ℕ → Value) (s : Common) → Grows s.store (open_room room v s).store
+pub opened-grows : (room : Room) (v : ℕ → Value) (s : Common)
+    → Grows s.store (open_room room v s).store
 opened-grows room v s slot h = go (in_room room slot)
   where
     go : (b : Bool) → is_some (cond b (Some (v (index_of slot - room.first)))
@@ -295,13 +297,68 @@ opened-without room v s none slot h = go (in_room room slot) refl
     go false e = h
 
 -- a slot of a room of that number is one of its slots
-room-clear : (room : Room) (n : ℕ) (store : Store) → room.event ≡ n
+pub room-clear : (room : Room) (n : ℕ) (store : Store) → room.event ≡ n
     → ((i : ℕ) → store (own n i) ≡ None) → (slot : Slot) → in_room room slot ≡ true
     → store slot ≡ None
 room-clear room n store e none (shared r i) h = absurd (true≢false (sym h))
 room-clear room n store e none (own m i) h =
     let same : m ≡ room.event = at-same room.event m (and-left (m == room.event) _ h) in
     ap (λ z. store (own z i)) (same ∙ e) ∙ none i
+
+-- whatever comes up for it: its room is there, and so is what was there before
+module _ (p : Program) (formed : IsFormed p) (store : Store) (f : Fixed) (rest : List Item)
+    (c : Command) (d : Call) (h : Procedure) (none : head_regions c ≡ [])
+    (call : Contains (head_calls c) d)
+    (caller : FrameIsOf p store (record { fixed = f; todo = command c ∷ rest }))
+    (there : procedure_at p d.callee ≡ Some h) (room : Room) (many : room.count ≡ room_count h)
+    (after : Store) (grows : Grows store after)
+    (opens : (slot : Slot) → in_room room slot ≡ true → is_some (after slot) ≡ true) where
+  here : Contains (sites [] (caller.procedure).body) (record { entered = inside rest; command = c })
+  here = caller.todo (record { entered = inside rest; command = c }) (sites-first c rest)
+
+  within : CallWithin p caller.procedure d
+  within = calls-within p caller.procedure c
+      (command-within p formed f c rest caller.procedure caller.there here) d call
+
+  pub callee-no_init : sets_up p d.callee ≡ false
+  callee-no_init = within.no_init
+
+  -- what occurs in the call is there
+  pub callee-given : (x : Occurrence) → Contains d.references x
+      → is_some (store (f.slots x.var)) ≡ true
+  callee-given x k = caller.variables x.var
+      (variable-here p formed f c rest caller.procedure caller.there here none x
+      (Contains-append_right (head_occurrences c) (flat_map call_occurrences (head_calls c)) x
+      (contains-flat_map call_occurrences (head_calls c) d x call
+      (Contains-append_left d.references (flat_map expr_occurrences d.values) x k))))
+
+  pub callee-counts : length d.references ≡ h.references
+  callee-counts = (subst (λ z. HasCounts z d) there within.callee).0
+
+  pub callee-variables : (x : Var) → IsVariable p (callee_frame f.slots d h room) h x
+      → is_some (after (slots_of f.slots d room x)) ≡ true
+  callee-variables (Own k) v = own-there f.slots after room d.references k
+      (λ x m. grows (f.slots x.var) (callee-given x m)) opens
+      (let most : k < length h.names = v in let refs = callee-counts in omega (arith, many))
+  callee-variables (Shared r i) v = elim v.1 [
+    | inl free ↦ grows (shared r i) (subst (λ z. is_some (store z) ≡ true) (caller.names r i)
+        (caller.variables (Shared r i)
+        (variable-called p formed f c rest caller.procedure caller.there here d call r i v.0 free)))
+    | inr k ↦ elim k [
+      | inl m ↦ absurd (contains-nil r (subst (λ z. Contains z r) (inside-block h.body) m))
+      | inr m ↦ absurd (true≢false (sym m ∙ callee-no_init))
+    ]
+  ]
+
+  pub callee-of : FrameIsOf p after (callee_frame f.slots d h room)
+  callee-of = record {
+    procedure = h;
+    there = there;
+    todo = λ z k. subst (λ w. Contains w z) (sites-block h.body) k;
+    names = λ r i. refl;
+    variables = callee-variables;
+    room = opens;
+  }
 
 module _ (p : Program) (formed : IsFormed p) (s : Common) (f : Fixed) (below : List Frame)
     (rest : List Item)
@@ -318,57 +375,13 @@ module _ (p : Program) (formed : IsFormed p) (s : Common) (f : Fixed) (below : L
   abbrev after : Store
   after = (open_room room (arguments f.slots s.store d) s).store
 
-  here : Contains (sites [] (caller.procedure).body) (record { entered = inside rest; command = c })
-  here = caller.todo (record { entered = inside rest; command = c }) (sites-first c rest)
-
-  within : CallWithin p caller.procedure d
-  within = calls-within p caller.procedure c
-      (command-within p formed f c rest caller.procedure caller.there here) d call
-
-  grows : Grows s.store after
-  grows = opened-grows room (arguments f.slots s.store d) s
-
-  -- what occurs in the call is there
-  given : (x : Occurrence) → Contains d.references x → is_some (after (f.slots x.var)) ≡ true
-  given x k = grows (f.slots x.var) (caller.variables x.var
-      (variable-here p formed f c rest caller.procedure caller.there here none x
-      (Contains-append_right (head_occurrences c) (flat_map call_occurrences (head_calls c)) x
-      (contains-flat_map call_occurrences (head_calls c) d x call
-      (Contains-append_left d.references (flat_map expr_occurrences d.values) x k)))))
-
-  counts : length d.references ≡ h.references
-  counts = (subst (λ z. HasCounts z d) there within.callee).0
-
-  callee-variables : (x : Var) → IsVariable p (callee_frame f.slots d h room) h x
-      → is_some (after (slots_of f.slots d room x)) ≡ true
-  callee-variables (Own k) v = own-there f.slots after room d.references k given
-      (opened-there room (arguments f.slots s.store d) s)
-      (let most : k < length h.names = v in omega (arith, counts, most))
-  callee-variables (Shared r i) v = elim v.1 [
-    | inl free ↦ grows (shared r i) (subst (λ z. is_some (s.store z) ≡ true) (caller.names r i)
-        (caller.variables (Shared r i)
-        (variable-called p formed f c rest caller.procedure caller.there here d call r i v.0 free)))
-    | inr k ↦ elim k [
-      | inl m ↦ absurd (contains-nil r (subst (λ z. Contains z r) (inside-block h.body) m))
-      | inr m ↦ absurd (true≢false (sym m ∙ within.no_init))
-    ]
-  ]
-
-  callee : FrameIsOf p after (callee_frame f.slots d h room)
-  callee = record {
-    procedure = h;
-    there = there;
-    todo = λ z k. subst (λ w. Contains w z) (sites-block h.body) k;
-    names = λ r i. refl;
-    variables = callee-variables;
-    room = opened-there room (arguments f.slots s.store d) s;
-  }
-
   -- the callee's frame on top of those of its caller
   pub frames-called : FramesAreOf p after
       (callee_frame f.slots d h room ∷ record { fixed = f; todo = rest } ∷ below)
   frames-called = (
-    callee,
+    callee-of p formed s.store f rest c d h none call caller there room refl after
+        (opened-grows room (arguments f.slots s.store d) s)
+        (opened-there room (arguments f.slots s.store d) s),
     frames-grow p s.store (without room after) (record { fixed = f; todo = rest } ∷ below)
         (opened-without room (arguments f.slots s.store d) s (room-clear room n s.store refl fresh))
         of,

@@ -67,7 +67,7 @@ same-own task shared after e h r holder is =
     h r holder (sym (ap (λ (f : ResId → Option Path). f (record { 0 = r })) e) ∙ is)
 
 -- a unit that is spent isn't among the others
-spent-other : (n : ℕ) (us vs : List ℕ) (m : ℕ) → us ≡ n ∷ vs → times n us ≤ 1 → Contains vs m
+pub spent-other : (n : ℕ) (us vs : List ℕ) (m : ℕ) → us ≡ n ∷ vs → times n us ≤ 1 → Contains vs m
     → m ≢ n
 spent-other n us vs m e once h same =
     let there = count-contains n vs (subst (λ z. Contains vs z) same h) in

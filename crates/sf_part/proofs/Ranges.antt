@@ -1,8 +1,9 @@
 -- The units of a task as ranges of the code, of which the last comes first.
 -- Names: `ranges_LAW` of lists of ranges, `units_LAW` of the numbers of one range.
 use Rattle.std.specs.Prelude.{◌≡◌, ℕ, zero, suc, ◌+◌, ◌-◌, ◌^◌, ◌<◌, ◌≤◌, List, [], ◌∷◌, ◌++◌, drop, length}
-use Rattle.std.proofs.Common.{sym, ap, ◌∙◌, refl, subst, arith}
+use Rattle.std.proofs.Common.{sym, ap, ◌∙◌, refl, subst, append_assoc, arith, length-append}
 use Rattle.std.proofs.lemmas.List.Concat.{flat_map-cons}
+use Rattle.std.proofs.lemmas.Grind.{flat_map-append}
 use Rattle.std.proofs.lemmas.List.{append-nil}
 use Rattle.sf_core.specs.Machine.Supplies.{units}
 use Rattle.sf_core.specs.Machine.Whole.{Range, numbers}
@@ -41,6 +42,24 @@ pub numbers_first : (us : List Units) (u : Units) → 0 < u.count
     ≡ u.first ∷ (units (u.first + 1) (u.count - 1) ++ numbers (ranges_of us))
 numbers_first us u l = numbers_snoc us u
     ∙ ap (λ z. z ++ numbers (ranges_of us)) (units_first u.first u.count l)
+
+-- of two lists the one that comes last comes first
+pub ranges_append : (us vs : List Units) → ranges_of (us ++ vs) ≡ ranges_of vs ++ ranges_of us
+ranges_append [] vs = sym (append-nil (ranges_of vs))
+ranges_append (u ∷ us) vs = ap (λ z. z ++ range_of u ∷ []) (ranges_append us vs)
+    ∙ append_assoc (ranges_of vs) (ranges_of us) (range_of u ∷ [])
+
+-- the numbers of two lists of ranges
+pub numbers_append : (us vs : List Range) → numbers (us ++ vs) ≡ numbers us ++ numbers vs
+numbers_append us vs = flat_map-append (λ (r : Range). units r.first r.count) us vs
+
+-- how many those of two lists are
+pub numbers_both : (us vs : List Units)
+    → length (numbers (ranges_of (us ++ vs)))
+    ≡ length (numbers (ranges_of vs)) + length (numbers (ranges_of us))
+numbers_both us vs = ap (λ z. length (numbers z)) (ranges_append us vs)
+    ∙ ap length (numbers_append (ranges_of vs) (ranges_of us))
+    ∙ length-append (numbers (ranges_of vs)) (numbers (ranges_of us))
 
 -- the one range of a supply
 pub numbers_one : (first count : ℕ)

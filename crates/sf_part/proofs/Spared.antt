@@ -19,6 +19,7 @@ use Rattle.sf_core.specs.Machine.HasThroughout.{HasThroughout}
 use Rattle.sf_core.specs.Program.Formed.{IsFormed}
 use Rattle.sf_core.specs.Program.Syntax.{Procedure, Program}
 use Rattle.sf_part.specs.Of.{AreInOrder, FrameIsOf, FramesAreOf, IsAbove, IsVariable, inside, without}
+use Rattle.sf_part.proofs.Orders.{has-called}
 use Rattle.sf_part.proofs.Owned.{grows-cond}
 use Rattle.sf_part.proofs.Supplies.{one_if}
 use Rattle.sf_part.proofs.Unheld.{free-unheld, held-called, held-entered, held-takes, passed-not_taken}
@@ -106,7 +107,8 @@ module _ (p : Program) (formed : IsFormed p) (conditions : Conditions p) (r : Re
       → IsAbove p f.fixed.procedure below → AreInOrder p below → FramesAreOf p store below
       → AllByRecursion (Spares p (GoneOf r)) below
   spare-below store f [] takes none zero above order of = tt
-  spare-below store f (g ∷ below) takes none zero (inl calls) order of =
+  spare-below store f (g ∷ below) takes none zero (inl called) order of =
+      let calls = has-called p g f.fixed.procedure called in
       let also = held-takes p formed conditions r g.fixed.procedure f.fixed.procedure calls takes
       in (
         spares store g

@@ -2,17 +2,18 @@
 -- called, nobody has a variable of it.
 -- Names: `held-LAW` of the resources that a procedure holds, `free-LAW` of variables that are free,
 -- `passed-LAW` of those that are passed.
-use Rattle.std.specs.Prelude.{◌≡◌, ℕ, List, ◌++◌, None, Some, Contains}
+use Rattle.std.specs.Prelude.{◌≡◌, ℕ, List, ◌∷◌, ◌++◌, None, Some, Contains}
 use Rattle.std.specs.List.{flat_map, slice_get}
 use Rattle.std.proofs.Common.{sym, refl, subst, inl, inr}
 use Rattle.std.proofs.lemmas.List.Elements.{Contains-append_cases, Contains-append_left}
-use Rattle.sf_base.proofs.Elements.{contains-nil}
+use Rattle.sf_base.proofs.Elements.{contains-nil, contains-single_of}
 use Rattle.sf_base.proofs.Members.{contains-flat_map_from}
 use Rattle.sf_base.specs.declared.ids.ProcId.{ProcId}
 use Rattle.sf_base.specs.declared.ids.ResId.{ResId}
 use Rattle.sf_base.specs.declared.ids.Var.{Var}
 use Rattle.sf_base.specs.declared.ids.Var.TheVariants.{Shared}
 use Rattle.sf_base.specs.declared.place.Place.{Place}
+use Rattle.sf_base.specs.HeapStore.{Store}
 use Rattle.sf_calls.specs.Around.{IsHeld}
 use Rattle.sf_calls.specs.Breaks.{Breaks, OccursAt}
 use Rattle.sf_calls.specs.Checked.Lemmas.Broken.{first_broken}
@@ -23,13 +24,17 @@ use Rattle.sf_calls.specs.declared.breach.Breach.TheVariants.{NotHeld, Reentered
 use Rattle.sf_calls.specs.FirstBreach.{Conditions}
 use Rattle.sf_calls.specs.Outside.{CallsIn, OccursOutside}
 use Rattle.sf_calls.specs.Reaches.{directly, through}
+use Rattle.sf_core.specs.declared.assertion.Test.{Test}
+use Rattle.sf_core.specs.declared.command.Expr.{Expr}
 use Rattle.sf_core.specs.declared.command.Occurrence.{Occurrence}
+use Rattle.sf_core.specs.Machine.Config.{Item, command, Fixed, Frame}
 use Rattle.sf_core.specs.Machine.HasThroughout.{HasThroughout}
 use Rattle.sf_core.specs.Program.Formed.{IsFormed}
 use Rattle.sf_core.specs.Program.Heads.{call_occurrences, expr_occurrences, head_calls, head_occurrences, head_regions, occurrences_at}
 use Rattle.sf_core.specs.Program.Places.{place_of}
-use Rattle.sf_core.specs.Program.Syntax.{Call, Command, with, Procedure, Program}
-use Rattle.sf_part.specs.Of.{IsPassed, Passes}
+use Rattle.sf_core.specs.Program.Syntax.{Block, Call, Command, with, Procedure, Program}
+use Rattle.sf_part.specs.Of.{FrameIsOf, HasCalled, IsPassed, Passes, inside}
+use Rattle.sf_part.proofs.Sites.{sites-first}
 
 -- what occurs at a command occurs in it itself, or in one of its calls
 occurs-at : (c : Command) (y : Occurrence) → Contains (occurrences_at c) y → OccursAt y c
@@ -59,6 +64,39 @@ module _ (p : Program) (formed : IsFormed p) (conditions : Conditions p) (r : Re
   held-called g f (h, there, (s, m, (out, (d, k, e)))) takes held =
       unbroken g (Reentered d.place r)
       (h, there, (s, m, (inl held, inr (d, k, (refl, subst (λ z. Takes p z r) (sym e) takes)))))
+
+  -- nor is a frame still inside of what the one takes that it has called
+  pub inside-called : (g : Frame) (f : ProcId) → HasCalled p g f → Takes p f r
+      → Contains (inside g.todo) r → ⊥
+  inside-called g f (h, there, (s, m, (around, (d, k, e)))) takes entered =
+      unbroken g.fixed.procedure (Reentered d.place r) (
+        h,
+        there,
+        (
+          s,
+          m,
+          (
+            inr (subst (λ z. Contains z r) (sym around) entered),
+            inr (d, k, (refl, subst (λ z. Takes p z r) (sym e) takes)),
+          ),
+        ),
+      )
+
+  -- nor one of that whose region it is about to enter
+  pub inside-entering : (store : Store) (f : Fixed) (place : Place) (test : Test Expr) (body : Block)
+      (rest : List Item)
+      → FrameIsOf p store (record { fixed = f; todo = command (with place r test body) ∷ rest })
+      → Contains (inside rest) r → ⊥
+  inside-entering store f place test body rest of entered =
+      unbroken f.procedure (Reentered place r) (
+        of.procedure,
+        of.there,
+        (
+          record { entered = inside rest; command = with place r test body },
+          of.todo _ (sites-first (with place r test body) rest),
+          (inr entered, inl (refl, contains-single_of r r refl)),
+        ),
+      )
 
   -- which it takes too
   pub held-takes : (g f : ProcId) → Calls p None g f → Takes p f r → Takes p g r

@@ -9,7 +9,7 @@ use Rattle.sf_core.specs.Assertions.Sat.{Sat}
 use Rattle.sf_core.proofs.Machine.Examples.Runs.{one-sat, sat-one}
 use Rattle.sf_core.specs.Checked.Machine.WholeExamples.{nils, cell_at}
 use Rattle.std.proofs.lemmas.Bool.Decides.{nat_tests}
-use Rattle.std.specs.Prelude.{◌≡◌, ℕ, Bool, true, false, cond, List, [], ◌∷◌, ◌++◌, ◌==◌, ◌/◌, take, drop, length, Some, None, is_some, ◌&&◌, ltb}
+use Rattle.std.specs.Prelude.{◌≡◌, ℕ, Bool, true, false, cond, List, [], ◌∷◌, ◌++◌, ◌==◌, ◌/◌, map, max, suc, take, drop, length, Some, None, is_some, ◌&&◌, ltb}
 use Rattle.std.specs.Option.{unwrap_or}
 use Rattle.std.proofs.Common.{sym, ap, ap₂, ◌∙◌, refl, subst, inl, inr, arith, true≢false}
 use Rattle.std.proofs.lemmas.Option.{none-some, same_Some}
@@ -24,9 +24,9 @@ use Rattle.sf_core.specs.Machine.Next.{next}
 use Rattle.sf_core.specs.Machine.Step.{Event, TaskStep, set_holder}
 use Rattle.sf_core.specs.Machine.Supplies.{has, lent, NextTakes}
 use Rattle.sf_core.specs.Machine.Whole.{running, numbers, IsUnion}
-use Rattle.sf_part.specs.Checked.Examples.{frame, assigns, assigning, no_slots, enters, entering, shared_slot, inside, outside, forks, forker, opened, forked, AssigningIsPrivate, OtherNumbersAreNotTaken, SpentPartsHaveNoEvent, OthersVariablesAreNotWritten, EventsAreLogged, EntersWithContent, FalseConditionsAreNotEntered, EntriesComeAfterContents, ExitsWithContent, ContentsGetTheExitsStamp, ForksInHalves, HalvesAreExact, LeftHalvesAreRoundedDown, JoinsTakeTheLeftUnitsFirst, of_lock, JustTheContentIsGiven, MissingCellsAreNotGiven, MoreCellsAreNotGiven, KeptVariablesAreNotGiven}
+use Rattle.sf_part.specs.Checked.Examples.{frame, assigns, assigning, no_slots, enters, entering, shared_slot, inside, outside, forks, forker, noted_at, opened, forked, AssigningIsPrivate, OtherNumbersAreNotTaken, SpentPartsHaveNoEvent, OthersVariablesAreNotWritten, EventsAreLogged, EntersWithContent, FalseConditionsAreNotEntered, EntriesComeAfterContents, ExitsWithContent, ContentsGetTheExitsStamp, ForksInHalves, HalvesAreExact, LeftHalvesAreRoundedDown, JoinsKeepLogsInOrder, JoinsTakeTheLeftUnitsFirst, of_lock, JustTheContentIsGiven, MissingCellsAreNotGiven, MoreCellsAreNotGiven, KeptVariablesAreNotGiven}
 use Rattle.sf_part.specs.Steps.{common_of, HasSlots, Forks}
-use Rattle.sf_part.specs.Timed.{TimedPart}
+use Rattle.sf_part.specs.Timed.{Stamped, TimedPart, noted}
 use Rattle.sf_part.proofs.Beside.{takes-join, takes-next, takes-one}
 
 -- the one slot that is written is the part's
@@ -275,6 +275,26 @@ joins_take_the_left_units_first ev a one two b e l r =
     let n : 6 ≡ ev.number = cc in
     let m : 7 ∷ 9 ∷ [] ≡ numbers b.part.supply = cc in
     (sym n, sym m)
+
+pub joins_keep_logs_in_order : JoinsKeepLogsInOrder
+unfolding JoinsKeepLogsInOrder
+joins_keep_logs_in_order ev a one two b e x y z keeps log left_log right_log =
+    let clock : b.clock ≡ 10 = e.notes.clock_is
+    ∙ ap (λ n. suc (max n (max one.clock two.clock))) x
+    ∙ ap (λ n. suc (max 4 (max n two.clock))) y ∙ ap (λ n. suc (max 4 (max 6 n))) z in
+    let entry : Stamped = record { stamp = b.clock; task = ev.task; number = ev.number } in
+    let stamps : List Stamped → List ℕ = map (λ (s : Stamped). s.stamp) in (
+      clock,
+      ap stamps e.notes.log_is
+          ∙ ap (λ l. stamps ((l ++ (one.log ++ two.log)) ++ noted a.keeps entry)) log
+          ∙ ap (λ l. stamps ((noted_at 4 5 ∷ [] ++ (l ++ two.log)) ++ noted a.keeps entry))
+          left_log
+          ∙ ap (λ l. stamps ((noted_at 4 5 ∷ [] ++ (noted_at 6 6 ∷ [] ++ l))
+          ++ noted a.keeps entry)) right_log
+          ∙ ap (λ k. stamps ((noted_at 4 5 ∷ [] ++ (noted_at 6 6 ∷ [] ++ noted_at 9 8 ∷ []))
+          ++ noted k entry)) keeps
+          ∙ ap (λ n. 4 ∷ 6 ∷ 9 ∷ n ∷ []) clock,
+    )
 
 -- What is just a content
 some-if : (b : Bool) (v : Value) → is_some (cond b (Some v) None) ≡ b

@@ -3,7 +3,10 @@
 pub mod Laws
 pub mod LawsOfTime
 pub mod LawsOfWhole
+pub mod LawsOfSettingUp
 pub mod LawsOfGiving
+pub mod LawsOfLending
+pub mod LawsOfGoing
 pub mod Examples
 pub mod Parting
 pub mod Ranges
@@ -16,3 +19,7 @@ pub mod Sharing
 pub mod Giving
 pub mod Handing
 pub mod Setup
+pub mod Joined
+pub mod Halving
+pub mod Children
+pub mod Splitting

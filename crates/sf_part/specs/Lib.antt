@@ -7,6 +7,7 @@ pub mod Ends
 pub mod Given
 pub mod Of
 pub mod Lent
+pub mod Going
 pub mod Stands
 pub mod Keeps
 pub mod Answers
@@ -14,6 +15,9 @@ pub mod Contents
 pub mod Guards
 pub mod Entry
 pub mod Leaving
+pub mod Joining
+pub mod Borrowed
+pub mod Forking
 pub mod Parts
 pub mod PartView
 pub mod Checked

@@ -84,12 +84,18 @@ pub record HasNothing (p : Program) (f : Frame) : Type 0 where
   pub holds : (r : ResId) → HasThroughout p f.fixed.procedure r → ⊥
   pub names : (n : ℕ) (r : ResId) (i : ℕ) → f.fixed.slots (Own n) ≡ shared r i → ⊥
 
--- the frame next below one of that procedure called it; or that procedure sets the resources up,
+-- the frame has called f: a command of its body does, inside of the regions that the frame still has
+-- to leave
+abbrev pub HasCalled : Program → Frame → ProcId → Type 0
+HasCalled p g f = Has p (λ h. Somewhere (λ s. (s.entered ≡ inside g.todo)
+    × Makes s.command (λ d. d.callee ≡ f)) h.body) g.fixed.procedure
+
+-- the frame next below one of that procedure has called it; or that procedure sets the resources up,
 -- and below it is the entry's frame alone, which has nothing of them. It isn't that one which has
 -- none below
 abbrev pub IsAbove : Program → ProcId → List Frame → Type 0
 IsAbove p f [] = sets_up p f ≡ false
-IsAbove p f (g ∷ below) = Calls p None g.fixed.procedure f
+IsAbove p f (g ∷ below) = HasCalled p g f
     ⊎ ((sets_up p f ≡ true) × HasNothing p g × (below ≡ []))
 
 -- so it is with each of the frames

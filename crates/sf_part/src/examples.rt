@@ -9,6 +9,7 @@ ghost use Rattle.sf_part.specs.Checked.Examples.{
   FalseConditionsAreNotEntered,
   ForksInHalves,
   HalvesAreExact,
+  JoinsKeepLogsInOrder,
   JoinsTakeTheLeftUnitsFirst,
   JustTheContentIsGiven,
   KeptVariablesAreNotGiven,
@@ -102,6 +103,12 @@ pub fn left_halves_are_rounded_down()
 #[tactic(auto, using(crate::proofs::Worked::joins_take_the_left_units_first))]
 pub fn joins_take_the_left_units_first()
     ensures { JoinsTakeTheLeftUnitsFirst }
+{}
+
+/// It comes after all that its children did, and keeps their logs, the left one's first.
+#[tactic(auto, using(crate::proofs::Worked::joins_keep_logs_in_order))]
+pub fn joins_keep_logs_in_order()
+    ensures { JoinsKeepLogsInOrder }
 {}
 
 /// A resource's variable with the cell of its invariant is just its content.

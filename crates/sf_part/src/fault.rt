@@ -6,7 +6,7 @@ use std::alloc::AllocError;
 #[derive(Clone, Copy, Debug, PartialEq, Eq)]
 pub enum PartFault {
     /// An assertion that asks for cells has no footprint in what the part has, or in what is left
-    /// of it for that assertion.
+    /// of it for that assertion; or two children would have a variable in common.
     NoFootprint,
     /// Memory ran out.
     OutOfMemory,

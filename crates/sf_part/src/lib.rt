@@ -9,12 +9,17 @@
 //! - `content`, `guard`, `spots` and `entering`: the entry of a region with its resource's content.
 //! - `share` and `leaving`: the exit, which gives up just that; `setup`: the return that sets all
 //!   resources up, which gives up what each has. `fault`: why they may not.
-//! - `laws`: the law of parts.
+//! - `joining` and `back`: the join of two children that have ended, which takes back what they hold.
+//! - `children`, `halving` and `splitting`: the fork, which gives each child just its share.
+//! - `laws`: the law of parts; `lent`: that a task keeps what it was lent; `going`: how tasks go on,
+//!   with the tasks that they make.
 //! - `time`: clocks, stamps and logs.
-//! - `whole`: what a part tells of the whole.
+//! - `whole`: what a part tells of the whole; `setting_up`: of a part whose task sets the resources up.
 //! - `examples`: one event of each kind, and what there isn't.
 #![tactic(auto)]
 
+mod back;
+mod children;
 mod clock;
 mod content;
 mod ending;
@@ -22,14 +27,20 @@ mod entering;
 pub mod examples;
 mod fault;
 mod first;
+pub mod going;
 mod guard;
+mod halving;
+mod joining;
 pub mod laws;
 mod leaving;
+pub mod lent;
 mod local;
 mod log;
 mod part;
+pub mod setting_up;
 mod setup;
 mod share;
+mod splitting;
 mod spots;
 mod stand;
 mod stepping;

@@ -98,7 +98,7 @@ fn empty_rows(alloc: Global, count: u32) -> Result<Vec<Vec<Value>>, AllocError>
 }
 
 /// The values of the variables of a resource, which has so many.
-fn resource_values(
+pub(crate) fn resource_values(
     alloc: Global,
     store: &Store,
     r: ResId,

@@ -1,6 +1,6 @@
 //! Units: the numbers that a task may still give its events.
 
-ghost use Rattle.std.specs.Prelude.{◌≡◌, ◌≢◌, ◌+◌, ◌<◌, ◌≤◌, ◌^◌, ◌∷◌, [], drop, length, IfOk, IsTrue, ◌↔◌};
+ghost use Rattle.std.specs.Prelude.{◌≡◌, ◌≢◌, ◌+◌, ◌<◌, ◌≤◌, ◌^◌, ◌∷◌, ◌++◌, [], drop, length, IfOk, IsTrue, ◌↔◌};
 ghost use Rattle.sf_core.specs.Machine.Whole.{numbers};
 ghost use Rattle.sf_part.specs.Checked.Ranges.{AreFit, ranges_of};
 
@@ -18,8 +18,8 @@ pub(crate) struct Units {
 /// ranges with the next one first. It keeps that none is empty, and how many units there are.
 #[derive(Debug, Drop)]
 pub(crate) struct Supply {
-    ranges: Vec<Units>,
-    left: u64,
+    pub(crate) ranges: Vec<Units>,
+    pub(crate) left: u64,
 }
 
 impl Model for Supply {
@@ -65,6 +65,25 @@ impl Supply {
         }
     }
 
+    /// The units of two, those of the first one first. An `Err` says that memory ran out.
+    pub(crate) fn joined(
+        alloc: Global,
+        first: &Supply,
+        second: &Supply,
+    ) -> Result<Supply, AllocError>
+        requires { length (numbers first.now) + length (numbers second.now) < 2 ^ 64 }
+        ensures { IfOk result (λ s. s ≡ first.now ++ second.now) }
+    {
+        let count = first.ranges.len() + second.ranges.len();
+        let mut ranges = Vec::with_capacity(alloc, count)?;
+        ranges.extend_from_slice(second.ranges.as_slice())?;
+        ranges.extend_from_slice(first.ranges.as_slice())?;
+        Ok(Supply {
+            ranges,
+            left: first.left + second.left,
+        })
+    }
+
     /// How many units there are.
     pub(crate) fn len(&self) -> u64
         ensures { result ≡ length (numbers self.now) }
@@ -101,7 +120,7 @@ impl Supply {
 }
 
 /// The first unit of the last range is no more.
-fn spend_first(ranges: &mut Vec<Units>)
+pub(crate) fn spend_first(ranges: &mut Vec<Units>)
     requires fit { AreFit ranges.old.items }
     requires some { numbers (ranges_of ranges.old.items) ≢ [] }
     ensures fit { AreFit ranges.new.items }

@@ -6,6 +6,7 @@ ghost use Rattle.sf_part.specs.Checked.LawsOfWhole.{
   ContentsAreApart,
   HeldAreOfTheProgram,
   PartsHold,
+  RegionsAreOutside,
   RunningEntriesAreAlone,
   RunningPartsRun,
   WaitingPartsWait,
@@ -33,6 +34,13 @@ pub fn running_entries_are_alone()
 #[tactic(auto, using(crate::proofs::Seen::parts_hold))]
 pub fn parts_hold()
     ensures { PartsHold }
+{}
+
+/// A task at a region isn't inside of one of its resource, where the program meets the conditions on
+/// variables: its part doesn't hold the resource.
+#[tactic(auto, using(crate::proofs::Outside::regions_are_outside))]
+pub fn regions_are_outside()
+    ensures { RegionsAreOutside }
 {}
 
 /// A condition whose variables a part with a content in hand has is true there exactly where it is

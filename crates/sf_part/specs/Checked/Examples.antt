@@ -1,6 +1,6 @@
 -- Worked examples of the events of parts: one of each kind that there is, and what there isn't.
 -- Small programs and small numbers, as one would do by hand.
-use Rattle.std.specs.Prelude.{◌≡◌, ℕ, true, false, cond, List, [], ◌∷◌, Some, None, ◌==◌}
+use Rattle.std.specs.Prelude.{◌≡◌, ℕ, true, false, cond, List, [], ◌∷◌, map, Some, None, ◌==◌}
 use Rattle.sf_base.specs.declared.path.Turn.TheVariants.{Left as left, Right as right}
 use Rattle.sf_base.specs.declared.value.Value.{Value}
 use Rattle.sf_base.specs.declared.value.Value.TheVariants.{Nil as nil, Loc as loc}
@@ -225,3 +225,10 @@ unfoldable pub JoinsTakeTheLeftUnitsFirst : Type 0
 JoinsTakeTheLeftUnitsFirst = (ev : Event) (a one two b : TimedPart) → Joins forking ev a one two b
     → numbers one.part.supply ≡ 6 ∷ 7 ∷ [] → numbers two.part.supply ≡ 9 ∷ []
     → (ev.number ≡ 6) × (numbers b.part.supply ≡ 7 ∷ 9 ∷ [])
+
+-- it comes after all that its children did, and their logs are kept, the left one's first
+unfoldable pub JoinsKeepLogsInOrder : Type 0
+JoinsKeepLogsInOrder = (ev : Event) (a one two b : TimedPart) → Joins forking ev a one two b
+    → a.clock ≡ 4 → one.clock ≡ 6 → two.clock ≡ 9 → a.keeps ≡ true → a.log ≡ noted_at 4 5 ∷ []
+    → one.log ≡ noted_at 6 6 ∷ [] → two.log ≡ noted_at 9 8 ∷ []
+    → (b.clock ≡ 10) × (map (λ (s : Stamped). s.stamp) b.log ≡ 4 ∷ 6 ∷ 9 ∷ 10 ∷ [])

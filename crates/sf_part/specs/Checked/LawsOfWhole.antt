@@ -1,13 +1,14 @@
 -- What a part tells of the whole that it belongs to: its task, the resources that it holds, and the
 -- conditions that it sees.
 -- O'Hearn (2007): what a task owns nobody else changes, so what it sees there is so.
-use Rattle.std.specs.Prelude.{◌≡◌, ◌<◌, ◌↔◌, ℕ, true, List, [], ◌∷◌, ◌++◌, length, Some, None, Contains}
+use Rattle.std.specs.Prelude.{◌≡◌, ◌<◌, ◌↔◌, ℕ, true, false, List, [], ◌∷◌, ◌++◌, length, Some, None, Contains}
 use Rattle.sf_base.specs.declared.ids.ProcId.{ProcId}
 use Rattle.sf_base.specs.declared.ids.ResId.{ResId}
 use Rattle.sf_base.specs.declared.ids.Var.{Var}
 use Rattle.sf_base.specs.declared.path.Turn.TheVariants.{Left as left, Right as right}
 use Rattle.sf_base.specs.declared.value.Value.{Value}
 use Rattle.sf_base.specs.HeapStore.{Heap, Slot, Store, own}
+use Rattle.sf_calls.specs.FirstBreach.{Conditions}
 use Rattle.sf_core.specs.declared.assertion.Test.{Test}
 use Rattle.sf_core.specs.declared.command.Expr.{Expr}
 use Rattle.sf_core.specs.Assertions.Sat.{IsTrueOf}
@@ -19,6 +20,8 @@ use Rattle.sf_core.specs.Machine.Step.{Event}
 use Rattle.sf_core.specs.Machine.Whole.{running, waiting, Part, Content, numbers, Whole}
 use Rattle.sf_core.specs.Program.Formed.{IsFormed}
 use Rattle.sf_core.specs.Program.Syntax.{Program}
+use Rattle.sf_part.specs.Guards.{IsAtRegion}
+use Rattle.sf_part.specs.Of.{IsOf}
 use Rattle.sf_part.specs.Steps.{HasChildren, HasInHand, IsChild}
 
 -- the task of a part that runs runs the part's frames
@@ -45,6 +48,12 @@ RunningEntriesAreAlone = (a : Part) (others : List Part) (contents : List Conten
 unfoldable pub PartsHold : Type 0
 PartsHold = (before after : List Part) (a : Part) (contents : List Content) (c : Config) (r : ResId)
     → Whole (before ++ a ∷ after) contents c → a.holds r ≡ true → c.common.held r ≡ Some a.task
+
+-- a task at a region, whose part is the program's, isn't inside of one of that resource, which is
+-- the program's
+unfoldable pub RegionsAreOutside : Type 0
+RegionsAreOutside = (p : Program) (a : Part) (r : ResId) → IsFormed p → Conditions p → IsOf p a
+    → IsAtRegion a r → (r.0 < length p.resources) × (a.holds r ≡ false)
 
 -- a condition whose variables a part with a content in hand has is true there exactly where it is
 -- true of the whole
