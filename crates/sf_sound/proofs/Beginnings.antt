@@ -2,11 +2,9 @@
 -- the body is safe.
 -- Names: `own-LAW` of the procedure's own variables, `first-LAW` of its first goal, `body-safe`.
 use Rattle.std.specs.List.{AllByRecursion}
-use Rattle.std.specs.Prelude.{◌⊎◌, ◌<◌, ◌≤◌, ◌+◌, ◌-◌, ◌||◌, ◌&&◌, Contains, flat_map, is_some, length, not, slice_get, get_or}
+use Rattle.std.specs.Prelude.{◌⊎◌, ◌<◌, ◌≤◌, ◌+◌, ◌-◌, ◌&&◌, Contains, flat_map, is_some, length, not, slice_get, get_or}
 use Rattle.std.specs.Option.{unwrap_or, option_map}
-use Rattle.std.proofs.Common.{◌≡◌, ℕ, zero, suc, Bool, true, false, Option, Some, None, List, [], ◌∷◌, ◌++◌, All, cond, map, refl, sym, ap, ◌∙◌, subst, subst₂, inl, inr, arith}
-use Rattle.std.proofs.lemmas.Bool.Decides.{nat_tests}
-use Rattle.std.proofs.lemmas.Bool.{or_left, or_right}
+use Rattle.std.proofs.Common.{◌≡◌, ℕ, suc, Bool, true, false, Option, Some, None, List, [], ◌∷◌, ◌++◌, All, cond, map, refl, sym, ap, ◌∙◌, subst, subst₂, inl, inr, arith}
 use Rattle.std.proofs.lemmas.List.Elements.{All-contains, Contains-append_cases}
 use Rattle.std.proofs.lemmas.Option.{slice_get-get_or, slice_get_within}
 use Rattle.sf_base.proofs.Elements.{all_by-append, contains-cons, contains-nil}
@@ -20,7 +18,6 @@ use Rattle.sf_base.specs.declared.ids.Var.TheVariants.{Own, Shared}
 use Rattle.sf_base.specs.declared.value.Value.{Value}
 use Rattle.sf_base.specs.declared.value.Value.TheVariants.{Nil as nil}
 use Rattle.sf_base.specs.HeapStore.{Cell, Heap}
-use Rattle.sf_base.specs.Variables.{same_var}
 use Rattle.sf_calls.specs.declared.breach.Breach.TheVariants.{NotHeld}
 use Rattle.sf_calls.specs.Around.{IsHeld}
 use Rattle.sf_calls.specs.Assigned.{MayChange}

@@ -1,5 +1,5 @@
--- The law: a program that is proved is sound. Its goals claim what is to do, by each row; so its bodies are safe.
--- Names: `proof-claims`, `proved-at`, `proofs_are_sound`.
+-- The laws: the goals of a proved program claim what is to do, by each row; so its bodies are safe, and it is sound.
+-- Names: `proof-claims`, `proved-at`; the lemmas of the laws have the names of their functions.
 use Rattle.std.specs.List.{AllByRecursion, slice_get}
 use Rattle.std.proofs.Common.{◌≡◌, ℕ, zero, suc, ◌+◌, Some, List, [], ◌∷◌, refl, sym, subst, arith}
 use Rattle.std.proofs.lemmas.Option.{none-some, same_Some}
@@ -13,12 +13,13 @@ use Rattle.sf_rules.specs.Checked.Lemmas.RuleRows.{leaves-row}
 use Rattle.sf_rules.specs.Rules.{Leaves}
 use Rattle.sf_rules.specs.Setting.{Setting}
 use Rattle.sf_rules.specs.Shape.{IsShaped}
-use Rattle.sf_safe.specs.Checked.LocalSafe.{LocallySafeProgramsAreSound}
+use Rattle.sf_safe.specs.Checked.LocalSafe.{LocallySafeBodiesAreSafe, LocallySafeProgramsAreSound}
 use Rattle.sf_sound.proofs.Beginnings.{body-safe}
 use Rattle.sf_sound.proofs.Bodies.{IsSane}
 use Rattle.sf_sound.proofs.Table.{RowLaws, row-claims}
 use Rattle.sf_rules.specs.First.{first_goal}
 use Rattle.sf_rules.specs.Proving.{Proof, Proofs, ProvesFrom, and, by, no_more}
+use Rattle.sf_sound.specs.Checked.Bodies.{ProvedBodiesAreLocallySafe, ProvedBodiesAreSafe}
 use Rattle.sf_sound.specs.Checked.Suits.{Claim}
 use Rattle.sf_sound.specs.Proofs.{ProofsAreSound}
 use Rattle.sf_sym.specs.declared.tag.Tag.{Tag}
@@ -30,7 +31,6 @@ pub record Laws : Type 0 where
   pub rows : RowLaws
   pub first : FirstGoalsAreShaped
   pub keep : RowsKeepShape
-  pub safe : LocallySafeProgramsAreSound
   pub breaches : FirstBreachIsBroken
   pub changes : ChangesAreAssigned
   pub meaning : OrderKeepsMeaning
@@ -80,14 +80,13 @@ in-order d order ordering a determined =
     let is : IsOrderOf a (record { names = a.names; level = o.0 }) = record { names = refl; level = o.1 } in
     subst (IsOrderOf a) (sym (ordering.ordered a (record { names = a.names; level = o.0 }) is)) is
 
-pub proofs_are_sound : Laws → ProofsAreSound
-unfolding ProofsAreSound LocallySafeProgramsAreSound FirstGoalsAreShaped
-proofs_are_sound laws d tags formed conditions sets determined ordering proves =
-    laws.safe d.program formed conditions (λ f g there values n l b.
+pub proved_bodies_are_locally_safe : Laws → ProvedBodiesAreLocallySafe
+unfolding ProvedBodiesAreLocallySafe FirstGoalsAreShaped
+proved_bodies_are_locally_safe laws d tags formed conditions sets determined ordering proves f g there values n l b =
     body-safe d sane f g there l values b
     (proof-claims laws.rows laws.keep d up (first_goal d f g) (laws.first d up f g there)
     (subst (λ z. Proof d (first_goal d (record { 0 = z }) g)) (let e : 0 + f.0 ≡ f.0 = omega arith in e)
-    (proved-at d d.program.procedures 0 f.0 tags g proves there))) n)
+    (proved-at d d.program.procedures 0 f.0 tags g proves there))) n
   where
     up : IsSetUp d
     up = record {
@@ -107,3 +106,13 @@ proofs_are_sound laws d tags formed conditions sets determined ordering proves =
       determined = laws.determined;
       form = laws.form;
     }
+
+pub proved_bodies_are_safe : ProvedBodiesAreLocallySafe → LocallySafeBodiesAreSafe → ProvedBodiesAreSafe
+unfolding ProvedBodiesAreSafe ProvedBodiesAreLocallySafe LocallySafeBodiesAreSafe
+proved_bodies_are_safe bodies safe d tags formed conditions sets determined ordering proves =
+    safe d.program formed (bodies d tags formed conditions sets determined ordering proves)
+
+pub proofs_are_sound : ProvedBodiesAreLocallySafe → LocallySafeProgramsAreSound → ProofsAreSound
+unfolding ProofsAreSound ProvedBodiesAreLocallySafe LocallySafeProgramsAreSound
+proofs_are_sound bodies safe d tags formed conditions sets determined ordering proves =
+    safe d.program formed conditions (bodies d tags formed conditions sets determined ordering proves)
