@@ -2,9 +2,8 @@
 -- at
 -- home.
 -- Names: `closing-LAW`.
-use Rattle.std.specs.Prelude.{◌≡◌, ◌≢◌, ◌<◌, ℕ, suc, cond, Bool, true, false, List, [], ◌∷◌, ◌++◌, map, length, slice_index, Option, Some, None, Contains}
-use Rattle.std.specs.Option.{option_map}
-use Rattle.std.proofs.Common.{sym, ap, ◌∙◌, refl, subst, inl, inr, ⊎_elim, arith, true≢false}
+use Rattle.std.specs.Prelude.{◌≡◌, ◌≢◌, ◌<◌, ℕ, zero, suc, cond, Bool, true, false, List, [], ◌∷◌, ◌++◌, map, length, slice_index, Option, Some, None, Contains}
+use Rattle.std.proofs.Common.{sym, ap, ◌∙◌, refl, subst, ⊎_elim, arith, true≢false}
 use Rattle.std.proofs.lemmas.List.Elements.{Contains-append_cases, Contains-append_right}
 use Rattle.std.proofs.lemmas.Grind.{flat_map-append}
 use Rattle.std.proofs.lemmas.Option.{none-some}
@@ -16,12 +15,12 @@ use Rattle.atomic_table.specs.Table.{State, Final, Seen}
 use Rattle.sf_core.specs.Machine.Config.{Frame, runs, Path, Config}
 use Rattle.sf_core.specs.Machine.Enabled.{HasEnded}
 use Rattle.sf_core.specs.Machine.Whole.{Part as WholePart, Content as WholeContent, running, stand_of, stands, own_stand, same_path, Whole}
-use Rattle.sf_part.proofs.Order.{whole-focus}
-use Rattle.sf_part.proofs.Seen.{running_entries_are_alone}
+use Rattle.sf_part.specs.Checked.Laws.{PartsInAnyOrder}
 use Rattle.sf_part.specs.Checked.LawsOfWhole.{RunningEntriesAreAlone}
 use Rattle.sf_part.specs.declared.content.Content.{Content}
 use Rattle.sf_part.specs.PartView.{part_of}
 use Rattle.sf_part.specs.Timed.{TimedPart}
+use Rattle.sf_region.specs.Checked.PartLaws.{PartLaws}
 use Rattle.sf_region.proofs.Keeps.{live-group, parts-at}
 use Rattle.sf_region.proofs.Lists.{cut, has-first, has-none, in_range, others-at}
 use Rattle.sf_region.proofs.Waits.{focused, has-flat}
@@ -32,7 +31,7 @@ use Rattle.sf_region.specs.Marks.{History}
 use Rattle.sf_region.specs.Plays.{Finished}
 use Rattle.sf_region.specs.Rule.{Slot, holding, group_of, parts_in, untimed, present, Rule, Law}
 use Rattle.sf_region.specs.Stamps.{Stamps}
-use Rattle.sf_region.specs.Waits.{BeganAt, first_of, opening_parts, program_in}
+use Rattle.sf_region.specs.Waits.{first_of, opening_parts, program_in}
 
 -- a task that has ended is inside of no region
 ended-outside : (path : Path) (frames : List Frame) → HasEnded path (runs frames)
@@ -82,6 +81,13 @@ all-there (x ∷ l) h =
       λ i. some-injective x (Some first.0) first.1 i ∷ rest.1 i,
     )
 
+-- what is at a place of a list is there among all that are there
+at-some : {A : Type 0} (l : List A) (r : ℕ) (a : A) → get_elem? l r ≡ some a
+    → get_elem? (map Some l) r ≡ some (Some a)
+at-some [] r a e = absurd (let h = in_range [] r a e in omega arith)
+at-some (x ∷ l) zero a e = ap (λ z. some (Some z)) (some-injective x a e)
+at-some (x ∷ l) (suc r) a e = at-some l r a e
+
 -- lists with the same at each place
 same-lists : {A : Type 0} (l m : List A) → length l ≡ length m
     → ((r : ℕ) (a : A) → get_elem? m r ≡ some a → get_elem? l r ≡ some a) → l ≡ m
@@ -93,7 +99,7 @@ same-lists (x ∷ l) (y ∷ m) e h =
     let rest = same-lists l m (omega arith) (λ r a k. h (suc r) a k) in
     λ i. first i ∷ rest i
 
-module _ (about : Begun) (s : State Slot View) (law : Law about s) (id : ℕ) (v : View)
+module _ (laws : PartLaws) (about : Begun) (s : State Slot View) (law : Law about s) (id : ℕ) (v : View)
     (at : get_elem? s.views id ≡ some v) (live : v.live ≡ true) (empty : v.hand ≡ None)
     (first : (part_of v.part).part.task ≡ (first_of about).part.task) (frames : List Frame)
     (stand : (part_of v.part).part.stand ≡ running frames)
@@ -115,13 +121,13 @@ module _ (about : Begun) (s : State Slot View) (law : Law about s) (id : ℕ) (v
       (Rattle.sf_region.specs.Waits.contents_in about.contents) q.start.0 q.start.1
 
   others-none : untimed before ++ untimed more ≡ []
-  unfolding RunningEntriesAreAlone
+  unfolding RunningEntriesAreAlone PartsInAnyOrder
   others-none =
       let h = q.history q.start.0 q.start.1 in
-      running_entries_are_alone a.part (untimed before ++ untimed more) (present q.contents)
+      laws.alone a.part (untimed before ++ untimed more) (present q.contents)
       h.config
-      frames (whole-focus (untimed before) (untimed more) a.part (present q.contents) h.config
-      (focused s.views (present q.contents) h.config h.whole id v at live)) root stand
+      frames ((laws.order (untimed before) (untimed more) a.part (present q.contents) h.config).0
+      (focused laws s.views (present q.contents) h.config h.whole id v at live)) root stand
 
   before-none : before ≡ []
   before-none = nil-first (λ (z : TimedPart). z.part) before (untimed more) others-none
@@ -195,25 +201,27 @@ module _ (about : Begun) (s : State Slot View) (law : Law about s) (id : ℕ) (v
     stamps = subst
         (λ (z : List TimedPart × List (Option Content)). Stamps (first_of about) law.marks z.0 z.1)
         (λ i. (parts-alone i, contents-there.1 i)) q.stamps;
+    exactly = λ r k at. q.exactly r k
+        (ap (λ z. get_elem? z r) contents-there.1 ∙ at-some contents-there.0 r k at);
   }
 
   pub closing-begun : v.begun ≡ about
   closing-begun = (q.each id v at live).begun
 
 -- what a closed table holds: the contents of all resources, at the end of one list of events
-pub closing-all : (about : Begun) (id : ℕ) (v : View) (ws : List ℕ) (xs : List Slot)
+pub closing-all : PartLaws → (about : Begun) (id : ℕ) (v : View) (ws : List ℕ) (xs : List Slot)
     → Final (Seen (Law about) id v) ws xs → v.live ≡ true → v.hand ≡ None
     → (part_of v.part).part.task ≡ (first_of v.begun).part.task → (frames : List Frame)
     → (part_of v.part).part.stand ≡ running frames
     → HasEnded (part_of v.part).part.task (runs frames)
     → (cs : List Content) × (xs ≡ map Some cs) × Finished v.begun (part_of v.part) cs
-closing-all about id v ws xs (s, (law, at), words, long, there) live empty first frames stand
+closing-all laws about id v ws xs (s, (law, at), words, long, there) live empty first frames stand
     ended =
     let begun = (law.rule.each id v at live).begun in
     let first' = first ∙ ap (λ (z : Begun). (first_of z).part.task) begun in
-    let all = contents-there about s law id v at live empty first' frames stand ended in (
+    let all = contents-there laws about s law id v at live empty first' frames stand ended in (
       all.0,
-      closing-slots about s law id v at live empty first' frames stand ended xs long there,
+      closing-slots laws about s law id v at live empty first' frames stand ended xs long there,
       subst (λ (z : Begun). Finished z (part_of v.part) all.0) (sym begun)
-          (closing-finished about s law id v at live empty first' frames stand ended),
+          (closing-finished laws about s law id v at live empty first' frames stand ended),
     )

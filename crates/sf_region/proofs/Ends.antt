@@ -7,16 +7,18 @@ use mathlib.Core.Option.{none}
 use Rattle.atomic_table.specs.Seated.{TableId}
 use Rattle.atomic_table.specs.Table.{Me, step, rest}
 use Rattle.sf_base.specs.declared.ids.ResId.{ResId}
+use Rattle.sf_base.specs.declared.path.Turn.{Turn}
+use Rattle.sf_core.specs.Machine.Whole.{Stand}
 use Rattle.sf_core.specs.Program.Syntax.{Program}
 use Rattle.sf_part.specs.declared.content.Content.{Content}
 use Rattle.sf_part.specs.declared.part.Part.{Part}
 use Rattle.sf_part.specs.Contents.{content_of}
 use Rattle.sf_part.specs.PartView.{part_of}
-use Rattle.sf_region.proofs.Insides.{private-inside, entry-inside, exit-inside}
+use Rattle.sf_region.proofs.Insides.{private-inside, entry-inside, exit-inside, fork-inside, join-inside}
 use Rattle.sf_region.specs.declared.entry.Entry.{Entry}
 use Rattle.sf_region.specs.declared.entry.Entry.TheVariants.{Entered}
 use Rattle.sf_region.specs.declared.views.View.{View}
-use Rattle.sf_region.specs.Calls.{IsNear, MayLeave, Tells}
+use Rattle.sf_region.specs.Calls.{IsNear, MayEnd, MayLeave, MaySplit, Tells}
 use Rattle.sf_region.specs.Holdings.{Holding, taken, with_hand, entered, Does, Act, Advance}
 use Rattle.sf_region.specs.Marks.{Kind, private, entry, exit, forking, joining, Mark}
 use Rattle.sf_region.specs.Plays.{IsFor, IsThere, Known, giving, hollow, lost, moved, tries, won}
@@ -36,8 +38,10 @@ act-taken p a c m (stamp, does) = go m.kind does
         (λ i. with_hand (hand i) (entered c.part.part.stand))
         ∙ (sym (exit-inside p m.event a.part c.part (content_of k) gives.exits).0
         ∙ ap (λ z. with_hand z (entered a.part.part.stand)) (sym empty))
-    go forking h = absurd h
-    go joining h = absurd h
+    go forking (one, two, hand, before, kids, e) =
+        λ i. with_hand (hand i) ((fork-inside p m.event a.part c.part one two e).0 i)
+    go joining (one, two, hand, kids, after, e) =
+        λ i. with_hand (hand i) ((join-inside p m.event a.part one two c.part e).0 i)
 
 pub advance-taken : (p : Program) (a c : Holding) (marks : List Mark) → Advance p a marks c
     → taken c ≡ taken a
@@ -136,3 +140,28 @@ module _ (a : Part) (slots : ℕ) (r : ResId) (m n l : Me Slot View) (found : �
         ∙ (deep ∙ ap (λ (k : Me Slot View). hollow (taken (holding k.0))) (sym w)),
     subst Known (sym (try-missed miss)) (try-told.1 miss).2,
   )
+
+-- the children of a fork are inside of no region
+module _ (p : Program) (v : View) (a one two : Part) (may : MaySplit p v a one two) where
+  pub split-left : entered (part_of one).part.stand ≡ []
+  split-left = (fork-inside p may.event (part_of may.before) (part_of a) (part_of one)
+      (part_of two) may.forks).2
+
+  pub split-right : entered (part_of two).part.stand ≡ []
+  split-right = (fork-inside p may.event (part_of may.before) (part_of a) (part_of one)
+      (part_of two) may.forks).3
+
+-- the slots of a seat stay at a fork
+pub taken-split : (p : Program) (t : TableId) (z : TableId × View) (a one two : Part)
+    (m : Me Slot View) → (t, m.0) ≡ z → m.1 ≡ hollow (taken (holding m.0))
+    → MaySplit p z.1 a one two → m.1 ≡ hollow (entered (part_of a).part.stand)
+taken-split p t z a one two m e deep may = taken-now p t z may.before m e deep may.near
+    ∙ ap hollow (sym (fork-inside p may.event (part_of may.before) (part_of a) (part_of one)
+    (part_of two) may.forks).0)
+
+-- a child that has ended has nothing
+pub taken-ended : (p : Program) (t : TableId) (z : TableId × View) (v : View) (turn : Turn)
+    (a : Part) (m : Me Slot View) → (t, m.0) ≡ z → m.1 ≡ hollow (taken (holding m.0))
+    → MayEnd p v turn z.1 a → m.1 ≡ []
+taken-ended p t z v turn a m e deep may = taken-now p t z a m e deep may.near
+    ∙ ap (λ (s : Stand). hollow (entered s)) may.ended

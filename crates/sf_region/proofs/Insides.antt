@@ -10,11 +10,11 @@ use native.Mathlib.Decide.{ℕ_discrete}
 use Rattle.sf_base.specs.declared.ids.ResId.{ResId}
 use Rattle.sf_core.specs.Machine.Config.{Item, command, leave, items, Fixed, Frame, Task, runs, waits, Path, Common}
 use Rattle.sf_core.specs.Machine.Next.{Next, does, leaves, returns, joins, nothing, frame_next, next}
-use Rattle.sf_core.specs.Machine.Step.{Event, Does, Goes, Chooses, task_with, TaskStep, set_holder, returned, free_all_if}
+use Rattle.sf_core.specs.Machine.Step.{Event, Does, Goes, task_with, set_holder, free_all_if}
 use Rattle.sf_core.specs.Program.Init.{sets_up}
 use Rattle.sf_core.specs.Program.Syntax.{Block, done, then, Command, assign, look_up, mutate, new, dispose, if, while, call, fork, with, Program}
 use Rattle.sf_part.specs.Of.{inside}
-use Rattle.sf_part.specs.Steps.{Private, Enters, Exits, IsPrivate, IsLocal, IsEntry, IsExit, common_of}
+use Rattle.sf_part.specs.Steps.{Private, Enters, Exits, Forks, Joins, IsPrivate, IsLocal, IsEntry, IsExit, IsFork, common_of}
 use Rattle.sf_part.specs.Timed.{TimedPart, TimedContent}
 use Rattle.sf_region.specs.Holdings.{inside_of, entered}
 use Rattle.sf_region.specs.Rule.{times, IsTidy}
@@ -51,6 +51,15 @@ inside-body (then c b) = inside-body b
 abbrev frames_or : Task → List Frame
 frames_or (runs frames) = frames
 frames_or (waits frames one two) = frames
+
+-- the left and the right child of a task that waits
+abbrev left_or : Task → Task
+left_or (runs frames) = runs frames
+left_or (waits frames one two) = one
+
+abbrev right_or : Task → Task
+right_or (runs frames) = runs frames
+right_or (waits frames one two) = two
 
 -- the frames after an event
 kept-is : (kept frames : List Frame) → runs kept ≡ runs frames → inside_of kept ≡ inside_of frames
@@ -143,6 +152,21 @@ module _ (p : Program) (ev : Event) (s t : Common) (kept : List Frame) where
         t_is,
       )
 
+  fork-goes : (what : Next) (ones twos : List Frame) → IsFork what
+      → Goes p ev s what t (waits kept (runs ones) (runs twos))
+      → (inside_of kept ≡ inside_next what) × (inside_of ones ≡ []) × (inside_of twos ≡ [])
+      × (t.held ≡ s.held)
+  fork-goes what ones twos (f, below, place, c, d, rest, is) h =
+      let (less, g, k, first, second, t_is, u) =
+      subst (λ z. Goes p ev s z t (waits kept (runs ones) (runs twos))) is h in (
+        ap (λ z. inside_of (frames_or z)) u ∙ ap inside_next (sym is),
+        ap (λ z. inside_of (frames_or (left_or z))) u
+            ∙ ap (λ z. z ++ []) (inside-body g.body),
+        ap (λ z. inside_of (frames_or (right_or z))) u
+            ∙ ap (λ z. z ++ []) (inside-body k.body),
+        ap held t_is,
+      )
+
 -- what is held by a task is what its part holds
 holds-same : (b c : Bool) (x y : Path) → cond b (Some x) None ≡ cond c (Some y) None → b ≡ c
 holds-same true true x y e = refl
@@ -220,6 +244,32 @@ exit-inside p ev a b k e =
           (cond (a.part.holds r) (Some a.part.task) None)) (ne_eqb r.0 q.0 ne)),
     )
 
+pub fork-inside : (p : Program) (ev : Event) (a b one two : TimedPart) → Forks p ev a b one two
+    → (entered b.part.stand ≡ entered a.part.stand)
+    × ((r : ResId) → b.part.holds r ≡ a.part.holds r)
+    × (entered one.part.stand ≡ []) × (entered two.part.stand ≡ [])
+fork-inside p ev a b one two e =
+    let h = fork-goes p ev (common_of a.part) (common_of e.all) e.kept (next (runs e.frames))
+    e.left_frames e.right_frames e.fork e.acts.steps in (
+      ap entered (sym e.children.stand ∙ e.acts.to_is) ∙ (h.0 ∙ (sym (inside-frames e.frames)
+          ∙ ap entered (sym e.acts.from_is))),
+      λ r. sym (ap (λ z. z r) e.children.holds) ∙ holds-same (e.all.holds r) (a.part.holds r)
+          e.all.task a.part.task (ap (λ z. z r) h.3),
+      ap entered e.left_begins.stand ∙ h.1,
+      ap entered e.right_begins.stand ∙ h.2,
+    )
+
+pub join-inside : (p : Program) (ev : Event) (a one two b : TimedPart) → Joins p ev a one two b
+    → (entered b.part.stand ≡ entered a.part.stand)
+    × ((r : ResId) → b.part.holds r ≡ a.part.holds r)
+join-inside p ev a one two b e =
+    let (left, right, same, u) = e.acts.steps in (
+      ap entered e.acts.to_is ∙ (kept-is e.kept e.frames u
+          ∙ ap entered (sym (sym e.children.stand ∙ e.acts.from_is))),
+      λ r. holds-same (b.part.holds r) (e.all.holds r) b.part.task e.all.task
+          (ap (λ (z : Common). z.held r) same) ∙ ap (λ z. z r) e.children.holds,
+    )
+
 -- Counts
 pub times-cons : (n m : ℕ) (ns : List ℕ) → times n (m ∷ ns) ≡ cond (m == n) 1 0 + times n ns
 times-cons n m ns = sum_by-cons (λ z. cond (z == n) 1 0) m ns
@@ -229,15 +279,6 @@ one_if b = cond b 1 0
 
 cond-bool : (b c : Bool) → b ≡ c → one_if b ≡ one_if c
 cond-bool b c e = ap one_if e
-
-pub private-tidy : (p : Program) (ev : Event) (a b : TimedPart) → Private p ev a b → IsTidy a
-    → IsTidy b
-private-tidy p ev a b e h r =
-    let i = private-inside p ev a b e in
-    let x = h r in
-    let y : times r.0 (entered b.part.stand) ≡ times r.0 (entered a.part.stand) =
-    ap (times r.0) i.0 in
-    let z = cond-bool (b.part.holds r) (a.part.holds r) (i.1 r) in omega arith
 
 pub entry-tidy : (p : Program) (ev : Event) (a b : TimedPart) (k : TimedContent)
     → Enters p ev a k b → IsTidy a → IsTidy b
@@ -274,3 +315,31 @@ exit-tidy p ev a b k e h r =
     (λ ne. let u : one_if (q.0 == r.0) ≡ 0 =
     ap one_if (ne_eqb q.0 r.0 (λ s. ne (sym s))) in
     let w = cond-bool (b.part.holds r) (a.part.holds r) (i.3 r ne) in omega arith)
+
+-- what keeps what a part is inside of, and what it holds, keeps it tidy
+same-tidy : (a b : TimedPart) → entered b.part.stand ≡ entered a.part.stand
+    → ((r : ResId) → b.part.holds r ≡ a.part.holds r) → IsTidy a → IsTidy b
+same-tidy a b inside holds h r =
+    let x = h r in
+    let y : times r.0 (entered b.part.stand) ≡ times r.0 (entered a.part.stand) =
+    ap (times r.0) inside in
+    let z = cond-bool (b.part.holds r) (a.part.holds r) (holds r) in omega arith
+
+pub private-tidy : (p : Program) (ev : Event) (a b : TimedPart) → Private p ev a b → IsTidy a
+    → IsTidy b
+private-tidy p ev a b e h = let i = private-inside p ev a b e in same-tidy a b i.0 i.1 h
+
+pub fork-tidy : (p : Program) (ev : Event) (a b one two : TimedPart) → Forks p ev a b one two
+    → IsTidy a → IsTidy b
+fork-tidy p ev a b one two e h =
+    let i = fork-inside p ev a b one two e in same-tidy a b i.0 i.1 h
+
+pub join-tidy : (p : Program) (ev : Event) (a one two b : TimedPart) → Joins p ev a one two b
+    → IsTidy a → IsTidy b
+join-tidy p ev a one two b e h =
+    let i = join-inside p ev a one two b e in same-tidy a b i.0 i.1 h
+
+-- a part that is inside of no region is tidy
+pub outside-tidy : (a : TimedPart) → entered a.part.stand ≡ [] → IsTidy a
+outside-tidy a e r =
+    let x : times r.0 (entered a.part.stand) ≡ times r.0 [] = ap (times r.0) e in omega arith

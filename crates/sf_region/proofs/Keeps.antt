@@ -16,21 +16,25 @@ use Rattle.atomic_table.proofs.Lists.{at_longer, at_map, at_set, at_snoc, set_ag
 use Rattle.atomic_table.specs.Table.{State, opening}
 use Rattle.sf_base.specs.declared.ids.ResId.{ResId}
 use Rattle.sf_core.specs.Machine.Config.{Config}
+use Rattle.sf_core.specs.Machine.Whole.{numbers}
 use Rattle.sf_part.proofs.Supplies.{contains-count, count-contains}
 use Rattle.sf_part.specs.declared.content.Content.{Content}
+use Rattle.sf_part.specs.Keeps.{IsWaiting}
 use Rattle.sf_part.specs.PartView.{part_of}
 use Rattle.sf_part.specs.Timed.{TimedPart}
-use Rattle.sf_region.proofs.Events.{Told, placed, Out, around, Stays, advance-stays}
+use Rattle.sf_region.specs.Checked.PartLaws.{PartLaws}
+use Rattle.sf_region.proofs.Events.{Stays, advance-stays}
+use Rattle.sf_region.proofs.Told.{Told, placed, Out, around}
 use Rattle.sf_region.proofs.Insides.{times-cons, one_if}
 use Rattle.sf_region.proofs.Lists.{Cut, cut, in_range, has-cases, has-first, has-later, has-none}
 use Rattle.sf_region.specs.declared.views.Begun.{Begun}
 use Rattle.sf_region.specs.declared.views.View.{View}
-use Rattle.sf_region.specs.Holdings.{Holding, group, taken, with_hand, entered, Advance}
+use Rattle.sf_region.specs.Holdings.{group, taken, with_hand, entered, Advance}
 use Rattle.sf_region.specs.Marks.{Mark, History}
 use Rattle.sf_region.specs.Plays.{won}
 use Rattle.sf_region.specs.Rule.{Slot, holding, live_group, group_of, parts_in, untimed, present, times, Fits, Rule, MayBegin, opening_view}
 use Rattle.sf_region.specs.Stamps.{Stamps}
-use Rattle.sf_region.specs.Waits.{BeganAt, first_of, opening_parts, program_in}
+use Rattle.sf_region.specs.Waits.{first_of, opening_parts, program_in}
 
 -- The parts in views
 pub live-group : (v : View) → v.live ≡ true → group_of v ≡ group (holding v)
@@ -144,7 +148,7 @@ abbrev pub told-of : {about : Begun} {marks : List Mark} {s : State Slot View}
 told-of r = record { exactly = r.exactly; start = r.start; history = r.history; stamps = r.stamps }
 
 -- a seat's task goes on
-module _ (about : Begun) (s : State Slot View) (id : ℕ) (v w : View) (es ms : List Mark)
+module _ (laws : PartLaws) (about : Begun) (s : State Slot View) (id : ℕ) (v w : View) (es ms : List Mark)
     (r : Rule about ms s) (at : get_elem? s.views id ≡ some v) (vl : v.live ≡ true)
     (wl : w.live ≡ true) (same : w.begun ≡ v.begun)
     (adv : Advance (program_in about) (holding v) es (holding w)) where
@@ -163,9 +167,9 @@ module _ (about : Begun) (s : State Slot View) (id : ℕ) (v w : View) (es ms : 
   out : Out base (taken (holding v))
   out = cleared-out v.hand (entered (part_of v.part).part.stand) r.contents fits.in_hand fits.inside
 
-  stays : Stays about (parts_in cs.before) (parts_in cs.after) base (ms ++ es) (holding v)
+  stays : Stays laws about (parts_in cs.before) (parts_in cs.after) base (ms ++ es) (holding v)
       (holding w)
-  stays = advance-stays about (parts_in cs.before) (parts_in cs.after) base ms es (holding v)
+  stays = advance-stays laws about (parts_in cs.before) (parts_in cs.after) base ms es (holding v)
       (holding w)
       (subst (λ z. Told about ms (around (parts_in cs.before) (holding v) (parts_in cs.after)) z)
       (sym (placed-cleared v.hand r.contents fits.in_hand))
@@ -641,9 +645,10 @@ only : (a q : TimedPart) → Contains (a ∷ []) q → a ≡ q
 only a q h = ⊎_elim (λ e. e) (λ k. absurd (has-none q k)) (has-cases a q [] h)
 
 first-stamps : (a : TimedPart) (contents : List (Option Content))
+    → (IsWaiting a.part.stand → numbers a.part.supply ≡ [])
     → ((r : ℕ) (k : Content) → get_elem? contents r ≡ some (Some k) → k.stamp ≤ a.clock)
     → Stamps a [] (a ∷ []) contents
-first-stamps a contents early = record {
+first-stamps a contents waits early = record {
   logs = λ k weigh.
       let x = sum_by-cons (λ (q : TimedPart). Rattle.std.specs.List.sum_by weigh q.log) a [] in
       omega arith;
@@ -653,6 +658,8 @@ first-stamps a contents early = record {
       omega arith;
   stamps = λ r k e. let x = early r k e in omega arith;
   supply = let x = sum_by-cons Rattle.sf_region.specs.Stamps.units_of a [] in omega arith;
+  idle = λ q h w. subst (λ (z : TimedPart). IsWaiting z.part.stand → numbers z.part.supply ≡ [])
+      (only a q h) waits w;
   reign = λ path. 0;
   ruled = λ m h. absurd (has-none m h);
   over = λ q h. omega arith;
@@ -662,7 +669,7 @@ first-stamps a contents early = record {
       arith;
   free = λ m r k h. absurd (has-none m h);
   held = λ m r q h. absurd (has-none m h);
-  keeps = λ k q h. ap (λ (z : TimedPart). z.keeps) (sym (only a q h)) ∙ k;
+  keeps = λ q h. ap (λ (z : TimedPart). z.keeps) (sym (only a q h));
 }
 
 -- a part with which a table begins is inside of no region
@@ -700,7 +707,7 @@ begins about ws slots may limit full long zeros =
           (opening_parts about) (present (map Some about.contents))
           (subst (λ z. Rattle.sf_core.specs.Machine.Whole.Whole (opening_parts about) z c)
           (sym (present-all about.contents)) began);
-      stamps = first-stamps (first_of about) (map Some about.contents)
+      stamps = first-stamps (first_of about) (map Some about.contents) about.part.kept.waiting
           (λ r k e. may.early r k (some-at about.contents r k e));
       limit = limit;
     }

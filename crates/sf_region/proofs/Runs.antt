@@ -18,10 +18,10 @@ use Rattle.sf_core.specs.Machine.Step.{Event, Step}
 use Rattle.sf_core.specs.Machine.Supplies.{Supply}
 use Rattle.sf_core.specs.Machine.Whole.{Part, Content, Whole, IsUnion, own_stand, stand_of, stands, running}
 use Rattle.sf_core.specs.Program.Syntax.{Program}
-use Rattle.sf_part.proofs.Order.{whole-focus}
-use Rattle.sf_part.proofs.Tasks.{tasks-runs}
 use Rattle.sf_part.proofs.Trees.{entry-here}
 use Rattle.sf_part.specs.Checked.Laws.{Leads}
+use Rattle.sf_part.specs.Checked.LawsOfWhole.{RunningPartsRun}
+use Rattle.sf_region.specs.Checked.PartLaws.{PartLaws}
 use Rattle.sf_region.proofs.Lists.{has-cases}
 use Rattle.sf_region.specs.Marks.{Mark, events_of, IsKind, Makes, Arrives, History}
 
@@ -80,15 +80,15 @@ history-arrives p first c marks parts contents h = record {
 }
 
 -- the task of an event of a part that runs runs the part's frames
-pub task-from : (p : Program) (before after : List Part) (a : Part) (contents : List Content)
+pub task-from : PartLaws → (p : Program) (before after : List Part) (a : Part) (contents : List Content)
     (c d : Config) (event : Event) (frames : List Frame)
     → Whole (before ++ a ∷ after) contents c → event.task ≡ a.task
     → a.stand ≡ running frames → (s : Step p event c d) → s.from ≡ runs frames
-task-from p before after a contents c d event frames w own stand s =
+unfolding RunningPartsRun
+task-from laws p before after a contents c d event frames w own stand s =
     same_Some s.from (runs frames)
     (sym s.there ∙ (ap (λ z. task_at z c.tasks) own
-    ∙ tasks-runs c.tasks a (map own_stand (before ++ after)) frames
-    (whole-focus before after a contents c w).tasks stand))
+    ∙ laws.run before after a contents c frames w stand))
 
 -- what one of the maps has, their union has
 pub union-has : {A K X : Type 0} (f : A → Map K X) (xs : List A) (w : Map K X) (a : A) (key : K)
@@ -120,13 +120,14 @@ below-none (left ∷ path) turn (runs fs) frames e = absurd (none-some (runs fra
 below-none (right ∷ path) turn (runs fs) frames e = absurd (none-some (runs frames) e)
 
 -- a part that runs has no children
-pub task-childless : (a : Part) (others : List Part) (contents : List Content) (c : Config)
+pub task-childless : PartLaws → (a : Part) (others : List Part) (contents : List Content) (c : Config)
     (q : Part) (frames : List Frame) (turn : Turn) → Whole (a ∷ others) contents c
     → a.stand ≡ running frames → Contains others q → q.task ≡ a.task ++ turn ∷ [] → ⊥
-task-childless a others contents c q frames turn w stand h e =
+unfolding RunningPartsRun
+task-childless laws a others contents c q frames turn w stand h e =
     let (x, s, u) = w.tasks in
     let there = union-has own_stand others x q q.task q.stand u h (entry-here q.task q.stand) in
     let seen : stands c.tasks q.task ≡ Some q.stand = splits-has_right q.task q.stand s there in
-    let runs-there = tasks-runs c.tasks a (map own_stand others) frames w.tasks stand in
+    let runs-there = laws.run [] others a contents c frames w stand in
     none-some q.stand (sym (ap (option_map stand_of)
     (below-none a.task turn c.tasks frames runs-there)) ∙ (ap (stands c.tasks) (sym e) ∙ seen))

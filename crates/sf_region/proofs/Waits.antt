@@ -24,14 +24,12 @@ use Rattle.sf_core.specs.Machine.Config.{Fixed, runs, Path, Config, evaluate}
 use Rattle.sf_core.specs.Machine.Enabled.{variable, ReadsTest}
 use Rattle.sf_core.specs.Machine.SpentWaits.{MayMiss}
 use Rattle.sf_core.specs.Machine.SpentWaits as waits
-use Rattle.sf_core.specs.Machine.Whole.{Part as WholePart, Content as WholeContent, Whole, own_stand}
+use Rattle.sf_core.specs.Machine.Whole.{Part as WholePart, Content as WholeContent, Whole}
 use Rattle.sf_core.specs.Program.Syntax.{with}
 use Rattle.sf_part.proofs.Entries.{next-shape}
-use Rattle.sf_part.proofs.Order.{whole-focus}
-use Rattle.sf_part.proofs.Tasks.{tasks-runs}
-use Rattle.sf_part.proofs.Seen.{contents_are_apart, conditions_are_seen_alike, parts_hold}
+use Rattle.sf_part.specs.Checked.Laws.{PartsInAnyOrder}
 use Rattle.sf_part.proofs.Supplies.{count-contains}
-use Rattle.sf_part.specs.Checked.LawsOfWhole.{ConditionsAreSeenAlike, ContentsAreApart, PartsHold}
+use Rattle.sf_part.specs.Checked.LawsOfWhole.{ConditionsAreSeenAlike, ContentsAreApart, PartsHold, RunningPartsRun}
 use Rattle.sf_part.specs.declared.content.Content.{Content}
 use Rattle.sf_part.specs.declared.part.Part.{Part}
 use Rattle.sf_part.specs.Contents.{content_of}
@@ -39,7 +37,7 @@ use Rattle.sf_part.specs.Guards.{IsAtRegion, StandsAt}
 use Rattle.sf_part.specs.PartView.{part_of}
 use Rattle.sf_part.specs.Steps.{HasInHand}
 use Rattle.sf_part.specs.Timed.{TimedPart}
-use Rattle.sf_region.proofs.Events.{around}
+use Rattle.sf_region.specs.Checked.PartLaws.{PartLaws}
 use Rattle.sf_region.proofs.Keeps.{live-group, parts-at}
 use Rattle.sf_region.proofs.Lists.{at-has, others-at, cut, in_range, has-cases, has-first, has-later, has-none, present-append}
 use Rattle.sf_region.proofs.Runs.{history-arrives, task-apart}
@@ -149,8 +147,13 @@ act-own p a c m (stamp, does) = go m.kind does
     go (exit r) (k, empty, hand, of, kids, is_in, gives) =
         let e = gives.exits in
         (e.acts.own, sym e.hand.task ∙ e.acts.task, (let n = e.notes.clock_is in omega arith))
-    go forking h = absurd h
-    go joining h = absurd h
+    go forking (one, two, hand, none, kids, e) =
+        (e.acts.own, sym e.children.task ∙ e.acts.task, (let n = e.notes.clock_is in omega arith))
+    go joining (one, two, hand, kids, none, e) = (
+      e.acts.own ∙ e.children.task,
+      e.acts.task ∙ e.children.task,
+      (let n = e.notes.clock_is in omega arith),
+    )
 
 module _ (p : Rattle.sf_core.specs.Program.Syntax.Program) where
   pub advance-task : (a c : Holding) (marks : List Mark) → Advance p a marks c
@@ -165,6 +168,12 @@ module _ (p : Rattle.sf_core.specs.Program.Syntax.Program) where
   advance-tasks a c (x ∷ marks) (k, act, rest) m h = ⊎_elim
       (λ (e : x ≡ m). ap (λ (z : Mark). z.event.task) (sym e) ∙ (act-own p a k x act).0)
       (λ i. advance-tasks k c marks rest m i ∙ (act-own p a k x act).1) (has-cases x m marks h)
+
+  pub advance-push : (a c d : Holding) (marks : List Mark) (m : Mark) → Advance p a marks c
+      → Act p c m d → Advance p a (marks ++ m ∷ []) d
+  advance-push a c d [] m e act = (d, subst (λ (z : Holding). Act p z m d) e act, refl)
+  advance-push a c d (x ∷ marks) m (between, first, rest) act =
+      (between, first, advance-push between c d marks m rest act)
 
   advance-clock : (a c : Holding) (marks : List Mark) → Advance p a marks c
       → a.part.clock + length marks ≤ c.part.clock
@@ -195,7 +204,7 @@ has-mapped {A} {B} f (y ∷ l) x h = ⊎_elim
     (λ (e : y ≡ x). subst (λ (z : A). Contains (f y ∷ map f l) (f z)) e (has-first (f y) (map f l)))
     (λ k. has-later (f y) (f x) (map f l) (has-mapped f l x k)) (has-cases y x l h)
 
-module _ (views : List View) (contents : List WholeContent) (d : Config)
+module _ (laws : PartLaws) (views : List View) (contents : List WholeContent) (d : Config)
     (w : Whole (untimed (parts_in views)) contents d) where
   -- the parts, with a view's among them
   pub focused : (id : ℕ) (v : View) (at : get_elem? views id ≡ some v) → v.live ≡ true
@@ -210,6 +219,7 @@ module _ (views : List View) (contents : List WholeContent) (d : Config)
   pub views-apart : (i j : ℕ) (v u : View) → j ≢ i → get_elem? views i ≡ some v
       → get_elem? views j ≡ some u → v.live ≡ true → u.live ≡ true
       → (part_of u.part).part.task ≢ (part_of v.part).part.task
+  unfolding PartsInAnyOrder
   views-apart i j v u ne e g vl ul same =
       let c = cut views i v e in
       let before = untimed (parts_in c.before) in
@@ -230,7 +240,7 @@ module _ (views : List View) (contents : List WholeContent) (d : Config)
       (subst (λ z. Contains z (part_of u.part)) (flat_map-append group_of c.before c.after) rest))
       in
       task-apart (part_of v.part).part (before ++ after) contents d (part_of u.part).part
-      (whole-focus before after (part_of v.part).part contents d (focused i v e vl))
+      ((laws.order before after (part_of v.part).part contents d).0 (focused i v e vl))
       (subst (λ z. Contains z (part_of u.part).part)
       (map-append (λ (a : TimedPart). a.part) (parts_in c.before)
       ((holding v).kids ++ parts_in c.after))
@@ -241,6 +251,7 @@ module _ (views : List View) (contents : List WholeContent) (d : Config)
   pub at-region : (id : ℕ) (v : View) (at : get_elem? views id ≡ some v) → v.live ≡ true
       → (r : ResId) (f : Fixed) (test : Test Expr) → StandsAt (part_of v.part).part r f test
       → (h : waits.IsAtRegion d (part_of v.part).part.task r) × (h.frame ≡ f) × (h.test ≡ test)
+  unfolding RunningPartsRun
   at-region id v at live r f test (frames, stand, guard) =
       let c = cut views id v at in
       let before = untimed (parts_in c.before) in
@@ -252,9 +263,8 @@ module _ (views : List View) (contents : List WholeContent) (d : Config)
           test = test;
           body = guard.body;
           rest = guard.rest;
-          there = tasks-runs d.tasks (part_of v.part).part (map own_stand (before ++ after)) frames
-              (whole-focus before after (part_of v.part).part contents d
-              (focused id v at live)).tasks stand
+          there = laws.run before after (part_of v.part).part contents d frames
+              (focused id v at live) stand
               ∙ ap (λ z. Some (runs z)) (next-shape frames f guard.below
               (with guard.place r test guard.body) guard.rest guard.is);
         },
@@ -266,7 +276,7 @@ module _ (views : List View) (contents : List WholeContent) (d : Config)
       → (r : ResId) → (part_of v.part).part.holds r ≡ true
       → d.common.held r ≡ Some (part_of v.part).part.task
   unfolding PartsHold
-  held-by id v at live r h = parts_hold (untimed (parts_in (cut views id v at).before))
+  held-by id v at live r h = laws.hold (untimed (parts_in (cut views id v at).before))
       (untimed ((holding v).kids ++ parts_in (cut views id v at).after)) (part_of v.part).part
       contents d r (focused id v at live) h
 
@@ -297,7 +307,8 @@ NotTrue a k = (f : Fixed) (test : Test Expr) → StandsAt a k.resource f test
     → (both : WholePart) → HasInHand a (content_of k).content both
     → IsTrueOf (evaluate f.slots both.store) test → ⊥
 
-module _ (b : Begun) (marks : List Mark) (s : State Slot View) (q : Rule b marks s)
+module _ (laws : PartLaws) (b : Begun) (marks : List Mark) (s : State Slot View)
+    (q : Rule b marks s)
     (hands : (j : ℕ) (u : View) → get_elem? s.views j ≡ some u → Hands u)
     (id : ℕ) (v : View) (e : get_elem? s.views id ≡ some v) (live : v.live ≡ true) (r : ResId)
     (stands : IsAtRegion (part_of v.part).part r) where
@@ -315,7 +326,7 @@ module _ (b : Begun) (marks : List Mark) (s : State Slot View) (q : Rule b marks
         history-arrives (program_in b) (opening_parts b) c marks (untimed (parts_in s.views))
             (present q.contents) h,
         (
-          (at-region s.views (present q.contents) h.config w id v e live r stands.0 stands.1
+          (at-region laws s.views (present q.contents) h.config w id v e live r stands.0 stands.1
               stands.2).0,
           dite (ℕ_discrete j id)
               (λ same.
@@ -340,13 +351,13 @@ module _ (b : Begun) (marks : List Mark) (s : State Slot View) (q : Rule b marks
           inside)
         where
           apart : (part_of u.part).part.task ≢ (part_of v.part).part.task
-          apart = views-apart s.views (present q.contents) d w id j v u ne e g live ul
+          apart = views-apart laws s.views (present q.contents) d w id j v u ne e g live ul
 
           deep : Contains (entered (part_of u.part).part.stand) r.0
               → (o : Path) × (d.common.held r ≡ Some o) × (o ≢ (part_of v.part).part.task)
           deep i = (
             (part_of u.part).part.task,
-            held-by s.views (present q.contents) d w j u g ul r
+            held-by laws s.views (present q.contents) d w j u g ul r
                 (tidy-holds (part_of u.part) r (q.each j u g ul).tidy i),
             apart,
           )
@@ -363,7 +374,7 @@ module _ (b : Begun) (marks : List Mark) (s : State Slot View) (q : Rule b marks
               inr (
                 (part_of u.part).part.task,
                 apart,
-                (at-region s.views (present q.contents) d w j u g ul r at'.0 at'.1
+                (at-region laws s.views (present q.contents) d w j u g ul r at'.0 at'.1
                     (subst (λ (z : ResId). StandsAt (part_of u.part).part z at'.0 at'.1) same
                     at'.2)).0,
               ))
@@ -384,7 +395,7 @@ module _ (b : Begun) (marks : List Mark) (s : State Slot View) (q : Rule b marks
       let a : WholePart = (part_of v.part).part in
       let before = untimed (parts_in (cut s.views id v e).before) in
       let after = untimed ((holding v).kids ++ parts_in (cut s.views id v e).after) in
-      let fw = focused s.views (present q.contents) d w id v e live in
+      let fw = focused laws s.views (present q.contents) d w id v e live in
       let there = (q.each id v e live).in_hand k hand in
       let cs = cut q.contents k.resource.0 (Some k) there in
       let contents_is : present q.contents
@@ -393,18 +404,18 @@ module _ (b : Begun) (marks : List Mark) (s : State Slot View) (q : Rule b marks
       let w2 : Whole (before ++ a ∷ after)
       (present cs.before ++ (content_of k).content ∷ present cs.after) d =
       subst (λ z. Whole (before ++ a ∷ after) z d) contents_is fw in
-      let apart = contents_are_apart before after a (present cs.before) (present cs.after)
+      let apart = laws.contents before after a (present cs.before) (present cs.after)
       (content_of k).content d w2 in
       let both : WholePart = apart.0.0 in
       let f = stands.0 in let test = stands.1 in
       let st : StandsAt a k.resource f test = subst (λ (z : ResId). StandsAt a z f test) (sym is)
       stands.2 in
-      let seen = conditions_are_seen_alike before after a both (present cs.before)
+      let seen = laws.seen before after a both (present cs.before)
       (present cs.after) (content_of k).content d f.slots test w2 apart.0.1
       (reads f test st both apart.0.1) in
-      let at' = at-region s.views (present q.contents) d w id v e live r f test stands.2 in
+      let at' = at-region laws s.views (present q.contents) d w id v e live r f test stands.2 in
       let free : d.common.held k.resource ≡ None =
-      Rattle.sf_region.proofs.Events.all-middle (λ z. d.common.held z.resource ≡ None)
+      Rattle.sf_region.proofs.Told.all-middle (λ z. d.common.held z.resource ≡ None)
       (present cs.before) (content_of k).content (present cs.after) w2.free in (
         history-arrives (program_in b) (opening_parts b) c marks (untimed (parts_in s.views))
             (present q.contents) h,
@@ -431,14 +442,14 @@ pub empty-hand : (v : View) → v.hand ≡ None → Hands v
 empty-hand v e live k f = absurd (none-some k (sym e ∙ f))
 
 -- one seat moves, and the others keep what they had
-module _ (b : Begun) (s : State Slot View) (law : Law b s) (id : ℕ) (v : View)
+module _ (laws : PartLaws) (b : Begun) (s : State Slot View) (law : Law b s) (id : ℕ) (v : View)
     (at : get_elem? s.views id ≡ some v) (live : v.live ≡ true) (more : List Mark)
     (own : (m : Mark) → Contains more m → m.event.task ≡ (part_of v.part).part.task) where
   others-wait : (j : ℕ) (u : View) → j ≢ id → get_elem? s.views j ≡ some u → u.live ≡ true
       → Waits b (law.marks ++ more) u
   others-wait j u ne e ul =
       let h = law.rule.history law.rule.start.0 law.rule.start.1 in
-      let apart = views-apart s.views (present law.rule.contents) h.config h.whole id j v u ne at e
+      let apart = views-apart laws s.views (present law.rule.contents) h.config h.whole id j v u ne at e
       live ul in
       let w = law.waits j u e ul in
       record {

@@ -10,7 +10,7 @@ use Rattle.sf_part.specs.declared.content.Content.{Content}
 use Rattle.sf_part.specs.Contents.{IsContentIn, content_of}
 use Rattle.sf_part.specs.Given.{Gives}
 use Rattle.sf_part.specs.Of.{frames_in, inside}
-use Rattle.sf_part.specs.Steps.{Private, Enters}
+use Rattle.sf_part.specs.Steps.{Private, Enters, Forks, Joins}
 use Rattle.sf_part.specs.Timed.{TimedPart}
 use Rattle.sf_region.specs.Marks.{Kind, private, entry, exit, forking, joining, Mark}
 
@@ -41,7 +41,8 @@ abbrev pub taken : Holding → List ℕ
 taken a = with_hand a.hand (entered a.part.part.stand)
 
 -- what one event of each kind makes of it: an entry takes in the content in hand, an exit leaves
--- one in hand, which is exactly its resource's
+-- one in hand, which is exactly its resource's; a fork leaves the parts of its two children there,
+-- and a join takes them in
 abbrev pub Does : Program → Holding → Kind → Event → Holding → Type 0
 Does p a private event b = (b.hand ≡ a.hand) × (b.kids ≡ a.kids) × Private p event a.part b.part
 Does p a (entry r) event b = (k : Content) × (a.hand ≡ Some k) × (k.resource ≡ r)
@@ -49,8 +50,10 @@ Does p a (entry r) event b = (k : Content) × (a.hand ≡ Some k) × (k.resource
 Does p a (exit r) event b = (k : Content) × (a.hand ≡ None) × (b.hand ≡ Some k)
     × (k.resource ≡ r) × (b.kids ≡ a.kids) × IsContentIn p k
     × Gives p event a.part (content_of k) b.part
-Does p a forking event b = ⊥
-Does p a joining event b = ⊥
+Does p a forking event b = (one : TimedPart) × (two : TimedPart) × (b.hand ≡ a.hand)
+    × (a.kids ≡ []) × (b.kids ≡ one ∷ two ∷ []) × Forks p event a.part b.part one two
+Does p a joining event b = (one : TimedPart) × (two : TimedPart) × (b.hand ≡ a.hand)
+    × (a.kids ≡ one ∷ two ∷ []) × (b.kids ≡ []) × Joins p event a.part one two b.part
 
 -- the event's stamp is its task's clock after it
 abbrev pub Act : Program → Holding → Mark → Holding → Type 0

@@ -6,5 +6,6 @@ pub mod Receipt
 pub mod Rule
 pub mod Plays
 pub mod Calls
+pub mod Meeting
 pub mod Keys
 pub mod Checked

@@ -11,6 +11,7 @@ use Rattle.sf_core.specs.Machine.Config.{Config}
 use Rattle.sf_core.specs.Machine.Whole.{Part as WholePart, Content as WholeContent}
 use Rattle.sf_core.specs.Program.Syntax.{Program}
 use Rattle.sf_part.specs.declared.content.Content.{Content}
+use Rattle.sf_part.specs.declared.part.Part.{Part}
 use Rattle.sf_part.specs.Contents.{IsContentIn, content_of}
 use Rattle.sf_part.specs.Given.{IsContentOf}
 use Rattle.sf_part.specs.Guards.{IsAtRegion}
@@ -119,17 +120,21 @@ pub record Law (about : Begun) (s : State Slot View) : Type 0 where
   pub waits : (id : ℕ) (v : View) → get_elem? s.views id ≡ some v → v.live ≡ true
       → Waits about marks v
 
--- the view of the first seat
-abbrev pub opening_view : Begun → View
-opening_view b = record {
+-- the view of a seat whose task is new at the table
+abbrev pub newcomer : Part → Begun → View
+newcomer a b = record {
   live = true;
   hand = None;
-  part = b.part;
+  part = a;
   kids = [];
   missed = record { 0 = 0 };
   misses = 0;
   begun = b;
 }
+
+-- the view of the first seat
+abbrev pub opening_view : Begun → View
+opening_view b = newcomer b.part b
 
 -- MayBegin: with what a table may begin: there is one content for each resource, in their order,
 -- and

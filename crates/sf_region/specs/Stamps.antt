@@ -10,6 +10,7 @@ use Rattle.sf_base.specs.declared.path.Turn.{Turn}
 use Rattle.sf_core.specs.Machine.Config.{Path}
 use Rattle.sf_core.specs.Machine.Whole.{numbers}
 use Rattle.sf_part.specs.declared.content.Content.{Content}
+use Rattle.sf_part.specs.Keeps.{IsWaiting}
 use Rattle.sf_part.specs.Timed.{Stamped, TimedPart}
 use Rattle.sf_region.specs.Marks.{Kind, private, entry, exit, forking, joining, Mark}
 
@@ -64,6 +65,9 @@ pub record Stamps (first : TimedPart) (marks : List Mark) (parts : List TimedPar
       → k.stamp ≤ first.clock + length marks
   -- what the events have taken of the first supply, and what is left of it
   pub supply : length marks + sum_by units_of parts ≡ units_of first
+  -- a task that waits has none
+  pub idle : (a : TimedPart) → Contains parts a → IsWaiting a.part.stand
+      → numbers a.part.supply ≡ []
   -- for the events to come: no event of a task at a path is later than the path's reign. It is at
   -- most the clock of the part there and of its children's, and where there is no part at a path,
   -- its reign is at most the parent's
@@ -80,4 +84,4 @@ pub record Stamps (first : TimedPart) (marks : List Mark) (parts : List TimedPar
       → get_elem? contents r.0 ≡ some (Some k) → m.stamp ≤ k.stamp
   pub held : (m : Mark) (r : ResId) (a : TimedPart) → Contains marks m → Touches r m.kind
       → Contains parts a → a.part.holds r ≡ true → m.stamp ≤ a.clock
-  pub keeps : first.keeps ≡ true → (a : TimedPart) → Contains parts a → a.keeps ≡ true
+  pub keeps : (a : TimedPart) → Contains parts a → a.keeps ≡ first.keeps

@@ -3,17 +3,22 @@
 ghost use Rattle.std.specs.Mem.Slots.{IsFull, slots_items, slots_len};
 ghost use Rattle.std.specs.Prelude.{◌≡◌, ◌<◌, ◌≤◌, ◌==◌, cond, suc, IfOk, IfSome, IsSome, length, List, [], ◌∷◌, ◌++◌, map, replicate, Some, true, vec_capacity};
 ghost use Rattle.sf_part.specs.PartView.{part_of};
+ghost use Rattle.sf_base.specs.declared.path.Turn.TheVariants.{Left as left_turn, Right as right_turn};
 ghost use Rattle.sf_part.specs.declared.content.Content.{Content as K};
-ghost use Rattle.sf_region.specs.Calls.{MayClose, MayLeave, MayTry, Tells};
+ghost use Rattle.sf_region.specs.Calls.{IsNear, MayClose, MayEnd, MayLeave, MaySplit, MayTry, Tells};
 ghost use Rattle.sf_region.specs.declared.entry.Entry.TheVariants.{Entered};
 ghost use Rattle.sf_region.specs.Keys.{begun_of, begun_with};
-ghost use Rattle.sf_region.specs.Plays.{Finished, IsThere, bump, left};
-ghost use Rattle.sf_region.specs.Rule.{MayBegin, opening_view};
+ghost use Rattle.sf_region.specs.Holdings.{entered, taken};
+ghost use Rattle.sf_region.specs.Plays.{AreSeparate, Finished, IsThere, bump, hollow, left, moved, with_kids};
+ghost use Rattle.sf_region.specs.Rule.{MayBegin, holding, opening_view, newcomer};
 ghost use Rattle.sf_region.specs.Waits.{program_in};
 
 use crate::entry::Entry;
+use crate::part_laws::part_laws;
 use crate::receipt::{Closed, Misses};
-use crate::steps::{Key, Ruled, bury_word, leave_word, note_word, try_word};
+use crate::steps::{
+    FirstChild, Key, Ruled, bury_word, fork_word, leave_word, look_word, note_word, try_word,
+};
 use crate::views::View;
 use atomic_table::{Closed as Emptied, Seat, Table};
 use sf_base::{ResId, TaskPath};
@@ -163,6 +168,23 @@ fn entry_with(found: Option<Content>) -> Entry
     }
 }
 
+/// The seat of a task that is new at the table.
+fn seated<'p>(seat: Seat<Option<Content>, View<'p>>, part: &Part<'p>) -> RegionSeat<'p>
+    requires live { seat.me.0.live ≡ true }
+    requires slots { seat.me.1 ≡ hollow (taken (holding seat.me.0)) }
+    requires part { seat.me.0.part ≡ part.now }
+    requires missed { (seat.me.0.missed ≡ record { 0 = 0 }) × (seat.me.0.misses ≡ 0) }
+    ensures { result ≡ (seat.entry.table_id, seat.entry.me.0) }
+{
+    RegionSeat {
+        seat,
+        task: part.task(),
+        clock: part.clock(),
+        missed: ResId(0),
+        misses: 0,
+    }
+}
+
 impl<'p> Regions<'p> {
     /// A table where no task has a resource and each content is in its place, and the first seat,
     /// for the task of the part. An `Err` says that memory ran out.
@@ -181,22 +203,12 @@ impl<'p> Regions<'p> {
             part: Snapshot::of(part),
             contents: Snapshot::of(&contents),
         };
-        let task = part.task();
         let mut home = Vec::new(alloc);
         home.reserve(contents.len())?;
         let words = zero_words(alloc, contents.len() + 1)?;
         let slots = filled(alloc, contents)?;
         match Table::new(alloc, words.as_slice(), slots, &key) {
-            Ok((table, seat)) => Ok((
-                Regions { table, home },
-                RegionSeat {
-                    seat,
-                    task,
-                    clock: part.clock(),
-                    missed: ResId(0),
-                    misses: 0,
-                },
-            )),
+            Ok((table, seat)) => Ok((Regions { table, home }, seated(seat, part))),
             Err(_) => Err(AllocError),
         }
     }
@@ -251,6 +263,89 @@ impl<'p> Regions<'p> {
         seat.misses = misses;
     }
 
+    /// Tells the table the part as it now is: what the task did since the seat's last step stands in
+    /// the list of events from then on. No memory is taken, and nothing is waited for.
+    pub fn note(&self, seat: &mut RegionSeat<'p>, part: &Part<'p>)
+        requires table { seat.old.0 ≡ self.now.0 }
+        requires near { IsNear (program_in self.now.1) seat.old.1 part.now }
+        ensures table { seat.new.0 ≡ seat.old.0 }
+        ensures view { seat.new.1 ≡ moved part.now [] seat.old.1 }
+        ensures there { IsThere seat.old.1.begun (part_of part.now) }
+    {
+        let now = part.clock();
+        let misses = counting(now, seat.clock, seat.misses);
+        note_word::<Brand>(&self.table.shared, &mut seat.seat, part);
+        seat.task = part.task();
+        seat.clock = now;
+        seat.misses = misses;
+    }
+
+    /// Seats for the two children of a fork that the seat's task has made. No memory is taken, and
+    /// nothing is waited for.
+    pub fn split(
+        &self,
+        seat: &mut RegionSeat<'p>,
+        part: &Part<'p>,
+        left: &Part<'p>,
+        right: &Part<'p>,
+    ) -> (RegionSeat<'p>, RegionSeat<'p>)
+        requires table { seat.old.0 ≡ self.now.0 }
+        requires may { MaySplit (program_in self.now.1) seat.old.1 part.now left.now right.now }
+        ensures table { (seat.new.0 ≡ seat.old.0) × (result.0.0 ≡ seat.old.0)
+            × (result.1.0 ≡ seat.old.0) }
+        ensures view { seat.new.1 ≡ moved part.now [] seat.old.1 }
+        ensures children { (result.0.1 ≡ newcomer left.now seat.old.1.begun)
+            × (result.1.1 ≡ newcomer right.now seat.old.1.begun) }
+        ensures there { IsThere seat.old.1.begun (part_of part.now) }
+    {
+        part_laws();
+        fork_word::<Brand>(&self.table.shared, &mut seat.seat, part, left, right);
+        let one = self.table.shared.split_seat::<FirstChild>(&mut seat.seat);
+        let two = self.table.shared.split_seat::<FirstChild>(&mut seat.seat);
+        let now = part.clock();
+        seat.misses = counting(now, seat.clock, seat.misses);
+        seat.task = part.task();
+        seat.clock = now;
+        (seated(one, left), seated(two, right))
+    }
+
+    /// Takes the seats of the two children back, which have ended. Their parts stand in the view of
+    /// their parent's seat from then on, whose task may join them: the three have nothing in
+    /// common. No memory is taken, and nothing is waited for.
+    pub fn join(
+        &self,
+        seat: &mut RegionSeat<'p>,
+        left: RegionSeat<'p>,
+        left_part: &Part<'p>,
+        right: RegionSeat<'p>,
+        right_part: &Part<'p>,
+    )
+        requires table { (seat.old.0 ≡ self.now.0) × (left.0 ≡ self.now.0)
+            × (right.0 ≡ self.now.0) }
+        requires alone { seat.old.1.kids ≡ [] }
+        requires left { MayEnd (program_in self.now.1) seat.old.1 left_turn left.1 left_part.now }
+        requires right { MayEnd (program_in self.now.1) seat.old.1 right_turn right.1
+            right_part.now }
+        ensures table { seat.new.0 ≡ seat.old.0 }
+        ensures view { seat.new.1
+            ≡ with_kids (left_part.now ∷ right_part.now ∷ []) seat.old.1 }
+        ensures separate { AreSeparate (part_of seat.old.1.part) (part_of left_part.now)
+            (part_of right_part.now) }
+    {
+        part_laws();
+        let RegionSeat { seat: mut one, .. } = left;
+        let RegionSeat { seat: mut two, .. } = right;
+        note_word::<Brand>(&self.table.shared, &mut one, left_part);
+        note_word::<Brand>(&self.table.shared, &mut two, right_part);
+        self.table
+            .shared
+            .join_seat::<FirstChild>(&mut seat.seat, one);
+        self.table
+            .shared
+            .join_seat::<FirstChild>(&mut seat.seat, two);
+        look_word(&self.table.shared, &mut seat.seat);
+    }
+
     /// A receipt for the misses of the seat's task since its last event. No memory is taken.
     pub fn misses(&self, seat: &RegionSeat<'p>) -> Misses<'p>
         requires { 0 < seat.now.1.misses }
@@ -274,6 +369,7 @@ impl<'p> Regions<'p> {
         ensures finished { Finished seat.entry.1.begun (part_of part.now) result.0.items }
         ensures receipt { result.1 ≡ seat.entry.1.begun }
     {
+        part_laws();
         let Regions { table, home } = self;
         let RegionSeat { seat: mut own, .. } = seat;
         note_word::<Brand>(&table.shared, &mut own, part);

@@ -6,15 +6,17 @@ ghost use mathlib.Core.Option.{none};
 ghost use Rattle.atomic_table.specs.Table.{step};
 ghost use Rattle.sf_part.specs.Guards.{IsAtRegion};
 ghost use Rattle.sf_part.specs.PartView.{part_of};
-ghost use Rattle.sf_region.specs.Calls.{IsNear};
+ghost use Rattle.sf_region.specs.Calls.{IsNear, MaySplit};
 ghost use Rattle.sf_region.specs.Keys.{begun_of};
 ghost use Rattle.sf_region.specs.Checked.PutBack.{IsPutBack};
-ghost use Rattle.sf_region.specs.Plays.{aimed, buries, dead, leaves, notes, seen, tries};
+ghost use Rattle.sf_region.specs.Checked.Spent.{spent_view};
+ghost use Rattle.sf_region.specs.Plays.{aimed, buries, child, dead, joined, leaves, looks, notes, parent, seen, tries};
 ghost use Rattle.sf_region.specs.Rule.{Law, opening_view};
 ghost use Rattle.sf_region.specs.Waits.{program_in};
 
+use crate::part_laws::part_laws;
 use crate::views::View;
-use atomic_table::{Play, Seat, Shared, TableRule};
+use atomic_table::{Join, Play, Seat, Shared, Split, TableRule};
 use sf_base::ResId;
 use sf_core::Program;
 use sf_part::{Content, Part};
@@ -81,6 +83,7 @@ pub fn try_word<'p, N: Aim>(
         result seat.new.me }
 {
     let _ = part;
+    part_laws();
     shared.compare_exchange::<Tries<N>>(seat, r.0 as usize + 1, 0, 1)
 }
 
@@ -110,6 +113,7 @@ pub fn leave_word<'p, N: Aim>(
     ensures leaves { leaves part.now seat.old.me seat.new.me }
 {
     let _ = part;
+    part_laws();
     shared.store::<Leaves<N>>(seat, r.0 as usize + 1, 0);
 }
 
@@ -137,7 +141,69 @@ pub fn note_word<'p, N: Aim>(
     ensures notes { notes part.now [] seat.old.me seat.new.me }
 {
     let _ = part;
+    part_laws();
     shared.load::<Notes<N>>(seat, 0);
+}
+
+/// Puts the part as it is after a fork into the view, with the parts of the two children.
+pub fn fork_word<'p, N: Aim>(
+    shared: &Shared<Option<Content>, View<'p>, Key<'p>, Ruled>,
+    seat: &mut Seat<Option<Content>, View<'p>>,
+    part: &Part<'p>,
+    left: &Part<'p>,
+    right: &Part<'p>,
+)
+    requires aim { N.parts ≡ part.now ∷ left.now ∷ right.now ∷ [] }
+    requires table { seat.old.table_id ≡ shared.now.table_id }
+    requires wide { shared.now.table_id.words ≡ suc shared.now.table_id.slots }
+    requires live { seat.old.me.0.live ≡ true }
+    requires forks { MaySplit (program_in (begun_of shared.now.key)) seat.old.me.0 part.now left.now
+        right.now }
+    ensures seat { (seat.new.table_id ≡ seat.old.table_id) × (seat.new.id ≡ seat.old.id) }
+    ensures notes { notes part.now (left.now ∷ right.now ∷ []) seat.old.me seat.new.me }
+{
+    let _ = part;
+    let _ = left;
+    let _ = right;
+    part_laws();
+    shared.load::<Notes<N>>(seat, 0);
+}
+
+/// A look at the parts in the view.
+pub struct Looks;
+
+impl<'p> Play<Option<Content>, View<'p>> for Looks {
+    ghost then = { λ s m r n. looks m n };
+}
+
+/// Learns that the parts in the view have nothing in common.
+pub fn look_word<'p>(
+    shared: &Shared<Option<Content>, View<'p>, Key<'p>, Ruled>,
+    seat: &mut Seat<Option<Content>, View<'p>>,
+)
+    requires table { seat.old.table_id ≡ shared.now.table_id }
+    requires wide { shared.now.table_id.words ≡ suc shared.now.table_id.slots }
+    requires live { seat.old.me.0.live ≡ true }
+    ensures seat { (seat.new.table_id ≡ seat.old.table_id) × (seat.new.id ≡ seat.old.id) }
+    ensures looks { looks seat.old.me seat.new.me }
+{
+    part_laws();
+    shared.load::<Looks>(seat, 0);
+}
+
+/// A seat of its own for the first of the children whose parts are in a view, and the way back.
+pub struct FirstChild;
+
+impl<'p> Split<View<'p>> for FirstChild {
+    ghost left = { parent };
+
+    ghost right = { child };
+}
+
+impl<'p> Join<View<'p>> for FirstChild {
+    ghost both = { joined };
+
+    ghost spent = { spent_view };
 }
 
 /// What a receipt is to say.

@@ -6,6 +6,6 @@ pub load-requires : goal.load-requires
 load-requires g c = (
   search rules,
   (let w = c.requires.wide in omega arith),
-  notes-at _ _ _ c.args.seat.now.me c.args.part.now g.N.Aim.parts c.requires.aim c.requires.live
+  notes-at c.part_laws.ensures _ _ _ c.args.seat.now.me c.args.part.now g.N.Aim.parts c.requires.aim c.requires.live
       c.requires.near,
 )

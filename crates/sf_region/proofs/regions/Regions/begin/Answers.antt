@@ -6,7 +6,6 @@ use Rattle.sf_part.specs.PartView.{part_of}
 use Rattle.sf_region.proofs.Asks.{opens}
 use Rattle.sf_region.proofs.Keeps.{enters-none}
 use Rattle.sf_region.proofs.Lists.{zeros}
-use Rattle.sf_region.proofs.Waits.{unmissed}
 use Rattle.sf_region.specs.declared.views.Begun.{Begun}
 use Rattle.sf_region.specs.declared.views.View.{View}
 use Rattle.sf_region.specs.Holdings.{entered, taken}
@@ -32,20 +31,23 @@ new-requires c =
     (ap length made ∙ length-replicate (suc (length c.args.contents.items)) 0)
     (zeros ws (suc (length c.args.contents.items)) made))
 
-pub invariant_of-result-in-Ok : goal.invariant_of-result-in-Ok
-invariant_of-result-in-Ok c =
+pub seated-requires-clause-live : goal.seated-requires-clause-live
+seated-requires-clause-live c = ap (λ (m : Me Slot View). m.0.live) c.in-Ok.ensures.ok.4
+
+pub seated-requires-clause-slots : goal.seated-requires-clause-slots
+seated-requires-clause-slots c =
     let e = c.in-Ok.ensures.ok.4 in
-    let about : Begun = begun_with c.args.p.now.program c.args.part.now c.args.contents.items in (
-      ap (λ (m : Me Slot View). m.0.live) e,
-      ap (λ (m : Me Slot View). m.1) e ∙ sym (ap (λ (m : Me Slot View). hollow (taken (holding
-          m.0))) e
-          ∙ (ap (λ (z : Part). hollow (entered (part_of z).part.stand)) c.of-2.ensures
-          ∙ ap hollow (enters-none about c.requires))),
-      c.task-task.ensures.path ∙ sym (ap (λ (m : Me Slot View). (part_of m.0.part).part.task) e
-          ∙ ap (λ (z : Part). (part_of z).part.task) c.of-2.ensures),
-      c.clock.ensures ∙ sym (ap (λ (m : Me Slot View). m.0.part.clock) e
-          ∙ ap (λ (z : Part). z.clock) c.of-2.ensures),
-      sym (ap (λ (m : Me Slot View). m.0.missed) e),
-      sym (ap (λ (m : Me Slot View). m.0.misses) e),
-      unmissed c.in-Ok.seat.me.0 (sym (ap (λ (m : Me Slot View). m.0.misses) e)),
-    )
+    let about : Begun = begun_with c.args.p.now.program c.args.part.now c.args.contents.items in
+    ap (λ (m : Me Slot View). m.1) e ∙ sym (ap (λ (m : Me Slot View). hollow (taken (holding m.0))) e
+    ∙ (ap (λ (z : Part). hollow (entered (part_of z).part.stand)) c.of-2.ensures
+    ∙ ap hollow (enters-none about c.requires)))
+
+pub seated-requires-clause-part : goal.seated-requires-clause-part
+seated-requires-clause-part c =
+    ap (λ (m : Me Slot View). m.0.part) c.in-Ok.ensures.ok.4 ∙ c.of-2.ensures
+
+pub seated-requires-clause-missed : goal.seated-requires-clause-missed
+seated-requires-clause-missed c = (
+  ap (λ (m : Me Slot View). m.0.missed) c.in-Ok.ensures.ok.4,
+  ap (λ (m : Me Slot View). m.0.misses) c.in-Ok.ensures.ok.4,
+)

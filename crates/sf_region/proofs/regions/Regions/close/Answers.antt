@@ -18,7 +18,7 @@ drained-requires-clause-contents c =
     let w : View = moved a [] c.args.seat.1 in
     let view : c.note_word.new.seat.me.0 ≡ w = ap (λ (m : Me Slot View). m.0) n
     ∙ ap (λ (z : TableId × View). moved a [] z.1) c.seat.view_is in
-    let all = closing-all (begun_of c.self.inside.table.shared.key) c.note_word.new.seat.id w _ _
+    let all = closing-all c.part_laws.ensures (begun_of c.self.inside.table.shared.key) c.note_word.new.seat.id w _ _
     (subst (λ z. Final (Seen (Law (begun_of c.self.inside.table.shared.key))
     c.note_word.new.seat.id z) (slots_items c.close_with.result.words)
     (slots_items c.close_with.result.slots)) view c.close_with.ensures.values.2)
@@ -33,7 +33,7 @@ returns-clause-finished c =
     let w : View = moved a [] c.args.seat.1 in
     let view : c.note_word.new.seat.me.0 ≡ w = ap (λ (m : Me Slot View). m.0) n
     ∙ ap (λ (z : TableId × View). moved a [] z.1) c.seat.view_is in
-    let all = closing-all (begun_of c.self.inside.table.shared.key) c.note_word.new.seat.id w _ _
+    let all = closing-all c.part_laws.ensures (begun_of c.self.inside.table.shared.key) c.note_word.new.seat.id w _ _
     (subst (λ z. Final (Seen (Law (begun_of c.self.inside.table.shared.key))
     c.note_word.new.seat.id z) (slots_items c.close_with.result.words)
     (slots_items c.close_with.result.slots)) view c.close_with.ensures.values.2)
