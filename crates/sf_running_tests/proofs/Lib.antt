@@ -1,4 +1,3 @@
-pub mod Started
 pub mod Ordering
 pub mod Names
 pub mod NamesBehind

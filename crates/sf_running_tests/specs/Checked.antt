@@ -1,4 +1,3 @@
 -- What is checked and need not be believed: laws, worked examples, lemmas, and definitions that only proofs use.
 -- One module for each.
 pub mod Laws
-pub mod Running

@@ -3,7 +3,6 @@
 //! of their own so that the crates that they test needn't be proved once more with them.
 //!
 //! - `laws`: that what is written of a proof or of a run of a file's program is read back.
-//! - `files`: programs from their texts, and starts of their procedures.
 //! - `shelves`: shelves that hand out files and sinks that take bytes, and a caller of any of them.
 //! - `gates`: gates that hold callers, or nobody.
 //! - `heaps`: cells that are put, taken, joined and parted off.
@@ -11,18 +10,13 @@
 //! - `states`: starts, why there is none, and what is written.
 //! - `running`: programs, event by event.
 //! - `runs`: runs of one task.
-//! - `parts`: parts of one task, from their beginning to their end.
 #![tactic(auto)]
 
-#[cfg(test)]
-mod files;
 #[cfg(test)]
 mod gates;
 #[cfg(test)]
 mod heaps;
 pub mod laws;
-#[cfg(test)]
-mod parts;
 #[cfg(test)]
 mod running;
 #[cfg(test)]

@@ -5,10 +5,10 @@ ghost use Rattle.sf_core.specs.Program.ProgramView.{program_of};
 ghost use Rattle.sf_machine.specs.Configs.{config_of, IsWide};
 ghost use Rattle.sf_machine.specs.Reached.{IsReached};
 
-use crate::files::{fitted, start_of};
 use sf_base::limits::TURNS;
 use sf_base::{ResId, Slot, TaskPath, Thing, Turn, Value};
 use sf_core::Program;
+use sf_files::{fitted, start_of};
 use sf_heap::Cell;
 use sf_machine::{Config, Event, Stepped, accesses, begin, step};
 use sf_precise::Arranged;

@@ -7,12 +7,12 @@ ghost use Rattle.sf_core.specs.Program.ProgramView.{program_of};
 ghost use Rattle.sf_foot.specs.Starting.{StartsWith};
 ghost use Rattle.sf_run.specs.Sequential.{IsSequentialStart};
 
-use crate::files::{Entered, fitted, start_of};
 use crate::running::{TURNED, TWO_CELLS};
 use sf_base::ProcId;
 use sf_base::limits::{STEPS, WAITS};
 use sf_check::{Proof, check};
 use sf_core::Program;
+use sf_files::{Entered, fitted, start_of};
 use sf_io::OpenGate;
 use sf_precise::Arranged;
 use sf_run::{Budget, Stop, is_init_sequential, is_sequential, run};

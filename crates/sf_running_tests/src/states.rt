@@ -1,7 +1,7 @@
 //! `read` and `write` of states' texts, for files that are read from their texts. The answers were
 //! worked out by hand.
 
-use crate::files::fitted;
+use sf_files::fitted;
 use sf_foot::{Finish, Start};
 use sf_precise::Arranged;
 use sf_state::{StartFault, entry, read, write};

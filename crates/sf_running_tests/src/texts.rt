@@ -1,8 +1,8 @@
 //! What no clause says: what texts written by hand give, with ample memory. The fields are `hd` and
 //! `tl`, and the variables `p`, `q` and `r.v`.
 
-use crate::files::fitted;
 use sf_base::{FieldId, Value};
+use sf_files::fitted;
 use sf_heap::{Cell, Heap, Locations};
 use sf_precise::Arranged;
 use sf_state::{StartFault, State, entry, read_state, state_text};

@@ -1,4 +1,6 @@
-//! Programs from their texts, and starts of their procedures.
+//! A program from the bytes of its file, and a start of one of its procedures from the text of a state,
+//! each in one call that tells no reason where there is none: for tests of what runs programs.
+#![tactic(auto)]
 
 ghost use Rattle.std.specs.Prelude.{◌<◌, IfSome, length};
 ghost use Rattle.sf_core.specs.Program.ProgramView.{program_of};
@@ -16,7 +18,7 @@ use sf_vars::conditions;
 use std::alloc::Global;
 
 /// The program of a file, if nothing is wrong with it.
-pub(crate) fn fitted(alloc: Global, file: &[u8]) -> Option<Arranged> {
+pub fn fitted(alloc: Global, file: &[u8]) -> Option<Arranged> {
     let words = tokens(alloc, file).ok()?;
     let tree = parse(alloc, &words).ok()?;
     let program = elaborate(alloc, file, tree).ok()?;
@@ -29,13 +31,15 @@ pub(crate) fn fitted(alloc: Global, file: &[u8]) -> Option<Arranged> {
 
 /// A procedure, and a start of it.
 #[derive(Drop)]
-pub(crate) struct Entered {
-    pub(crate) f: ProcId,
-    pub(crate) start: Start,
+pub struct Entered {
+    /// The procedure.
+    pub f: ProcId,
+    /// The start.
+    pub start: Start,
 }
 
 /// The procedure of that name with the start that the text gives, if it is one.
-pub(crate) fn start_of(alloc: Global, p: &Arranged, name: &str, text: &[u8]) -> Option<Entered>
+pub fn start_of(alloc: Global, p: &Arranged, name: &str, text: &[u8]) -> Option<Entered>
     ensures starts { IfSome result (λ e. StartsWith (program_of p.now.program) e.f e.start.fresh
         e.start.vars e.start.heap e.start.parts.items) }
     ensures within { IfSome result (λ e. e.f.0 < length p.now.program.procedures.items) }

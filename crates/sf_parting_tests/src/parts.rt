@@ -1,21 +1,21 @@
 //! Parts of one task: with which part and contents a run begins, its own steps, and what it ends
 //! with. Numbers of events, stamps and values are worked out by hand.
 
-ghost use Rattle.std.specs.Prelude.{◌<◌, IfOk, IfSome, length};
+ghost use Rattle.std.specs.Prelude.{◌<◌, IfOk, IfSome, OnErr, length};
 ghost use Rattle.sf_core.specs.Program.ProgramView.{program_of};
 ghost use Rattle.sf_part.specs.Answers.{Answers};
 ghost use Rattle.sf_part.specs.PartView.{IsPartOf, part_of};
-ghost use Rattle.sf_running_tests.specs.Checked.Running.{IsAtEntry};
+ghost use Rattle.sf_parting_tests.specs.Checked.Running.{IsAtEntry};
 
-use crate::files::{Entered, fitted, start_of};
-use crate::running::{TURNED, TWO_CELLS};
+use crate::programs::{BARE, FELLED, SMALL_TREE, TURNED, TWO_CELLS};
 use sf_base::limits::STEPS;
-use sf_base::{FieldId, ProcId, ResId, TaskPath, Value};
+use sf_base::{FieldId, ProcId, ResId, TaskPath, Turn, Value};
 use sf_core::Program;
+use sf_files::{Entered, fitted, start_of};
 use sf_foot::Vars;
 use sf_frame::Spot;
 use sf_heap::Heap;
-use sf_part::{Content, Local, Log, Part, Stamped};
+use sf_part::{Content, Local, Log, Part, PartFault, Stamped};
 use sf_precise::Arranged;
 use std::alloc::{AllocError, Global};
 use std::test::Fail;
@@ -97,7 +97,7 @@ fn ended(
 }
 
 /// The value of a field of the cell at a location.
-fn field(heap: &Heap, at: u64, field: u32) -> Option<Value> {
+pub(crate) fn field(heap: &Heap, at: u64, field: u32) -> Option<Value> {
     heap.get(at).map(|cell| cell.get(FieldId(field)))
 }
 
@@ -176,5 +176,76 @@ fn a_fresh_run_begins_with_all(rt: HostRuntime) -> Result<(), Fail> {
     assert_eq!(rt; contents.len(), 0);
     let told = own_steps(&mut part, &p.program)?;
     assert_eq!(rt; told, Some((1, Local::AtInit)));
+    Ok(())
+}
+
+/// What the parallel call gives to which the task of a part comes by own steps, if it comes to one
+/// with a unit left.
+fn split_part<'p>(
+    part: &mut Part<'p>,
+    p: &'p Arranged,
+) -> Result<Option<Result<(Part<'p>, Part<'p>), PartFault>>, AllocError>
+    requires of { IsPartOf (program_of p.now.program) part.old }
+    requires entry { IsAtEntry (part_of part.old) }
+    ensures of { IsPartOf (program_of p.now.program) part.new }
+    ensures entry { IfOk result (λ o. IfSome o (λ r. OnErr r (IsAtEntry (part_of part.new)))) }
+{
+    let Some((_, Local::AtFork)) = own_steps(part, &p.program)? else {
+        return Ok(None);
+    };
+    if !part.has_unit() {
+        return Ok(None);
+    }
+    part.make_room()?;
+    Ok(Some(part.split(p)))
+}
+
+/// Why a part whose task comes to a parallel call is not split, and what comes next after that, if
+/// it isn't.
+fn unsplit<'p>(
+    part: &mut Part<'p>,
+    p: &'p Arranged,
+) -> Result<Option<(PartFault, Option<(u64, Local)>)>, AllocError>
+    requires of { IsPartOf (program_of p.now.program) part.old }
+    requires entry { IsAtEntry (part_of part.old) }
+{
+    match split_part(part, p)? {
+        Some(Err(fault)) => Ok(Some((fault, own_steps(part, &p.program)?))),
+        _ => Ok(None),
+    }
+}
+
+/// The test and two steps are the task's own, and the refusal takes nothing.
+#[test]
+fn a_part_without_the_cells_of_its_children_stays(rt: HostRuntime) -> Result<(), Fail> {
+    let alloc = rt.alloc();
+    let p = fitted(alloc, BARE).expect(&rt, "a program");
+    let begun = begin_part(alloc, &p, "disp_tree", b"p = @1\n@1 l=@9", 9)?.expect(&rt, "a start");
+    let Begun { mut part, .. } = begun;
+    let told = unsplit(&mut part, &p)?.expect(&rt, "a parallel call");
+    assert_eq!(rt; told, (PartFault::NoFootprint, Some((0, Local::AtFork))));
+    assert_eq!(rt; part.clock(), 3);
+    assert!(rt; part.has_unit());
+    assert_eq!(rt; part.task(), TaskPath::entry());
+    Ok(())
+}
+
+/// Three of eleven units go to own steps and one to the fork; of seven the left child has three.
+#[test]
+fn a_part_is_split_with_half_of_its_units_each(rt: HostRuntime) -> Result<(), Fail> {
+    let alloc = rt.alloc();
+    let p = fitted(alloc, FELLED).expect(&rt, "a program");
+    let begun = begin_part(alloc, &p, "disp_tree", SMALL_TREE, 11)?.expect(&rt, "a start");
+    let Begun { mut part, .. } = begun;
+    let told = split_part(&mut part, &p)?.expect(&rt, "a parallel call");
+    let (left, right) = told.ok().expect(&rt, "two children");
+    assert_eq!(rt; left.task(), TaskPath::entry().child(Turn::Left));
+    assert_eq!(rt; right.task(), TaskPath::entry().child(Turn::Right));
+    assert_eq!(rt; left.given(), 3);
+    assert_eq!(rt; right.given(), 4);
+    assert_eq!(rt; left.clock(), 4);
+    assert_eq!(rt; right.clock(), 4);
+    assert_eq!(rt; part.clock(), 4);
+    assert!(rt; !part.has_unit());
     Ok(())
 }

@@ -1,5 +1,5 @@
 use Rattle.sf_core.specs.Program.ProgramView.{program_of}
-use Rattle.sf_running_tests.proofs.parts.own_steps.Goals as goal
+use Rattle.sf_parting_tests.proofs.parts.own_steps.Goals as goal
 
 pub returns-in_err-make_room-clause-of : goal.returns-in_err-make_room-clause-of
 returns-in_err-make_room-clause-of c =

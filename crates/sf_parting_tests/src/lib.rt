@@ -1,0 +1,18 @@
+//! Tests of the parts of tasks and of the table where they meet, by the public calls of their crates.
+//! They are in a crate of their own so that the crates that they test needn't be proved once more
+//! with them.
+//!
+//! - `programs`: the texts of programs and of states.
+//! - `parts`: parts of one task, from their beginning to their end.
+//! - `turns`: a task at a table, turn by turn.
+//! - `regions`: what a task enters with, leaves and gets again, and what it misses.
+#![tactic(auto)]
+
+#[cfg(test)]
+mod parts;
+#[cfg(test)]
+mod programs;
+#[cfg(test)]
+mod regions;
+#[cfg(test)]
+mod turns;
