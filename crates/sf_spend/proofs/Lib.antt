@@ -1,0 +1,4 @@
+pub mod Takings
+pub mod Counts
+pub mod Balance
+pub mod Closing
