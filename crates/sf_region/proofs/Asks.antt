@@ -1,6 +1,6 @@
 -- What each step on a word asks: that the rule holds after it, and what its caller is told.
 -- Names: `KIND-at` of that kind of step, `KIND-seat` of a seat.
-use Rattle.std.specs.Prelude.{◌≡◌, ◌+◌, ◌<◌, ◌≤◌, ℕ, zero, suc, max, Bool, true, false, List, [], ◌∷◌, ◌++◌, map, length, slice_index, Some, None}
+use Rattle.std.specs.Prelude.{◌≡◌, ◌≢◌, ◌+◌, ◌<◌, ◌≤◌, ℕ, zero, suc, max, Bool, true, false, List, [], ◌∷◌, ◌++◌, map, length, slice_index, Some, None}
 use Rattle.std.proofs.Common.{set, sym, ap, ◌∙◌, refl, subst, ⊎_elim, arith, true≢false, set-set, eq-eqb, ne_eqb, eqb}
 use Rattle.std.proofs.lemmas.List.{map-append}
 use Rattle.std.proofs.lemmas.Option.{none-some, same_Some}
@@ -16,7 +16,7 @@ use Rattle.sf_base.specs.declared.path.Turn.TheVariants.{Left as left_turn, Righ
 use Rattle.sf_base.specs.declared.limits.TheConstants.{STEPS}
 use Rattle.sf_core.specs.Machine.Config.{Config}
 use Rattle.sf_core.specs.Machine.SpentWaits.{MayMiss}
-use Rattle.sf_core.specs.Machine.Whole.{Whole}
+use Rattle.sf_core.specs.Machine.Whole.{Whole, numbers}
 use Rattle.sf_part.specs.Checked.LawsOfWhole.{ChildrenAreApart, ContentsAreApart}
 use Rattle.sf_part.specs.declared.content.Content.{Content}
 use Rattle.sf_part.specs.declared.part.Part.{Part}
@@ -41,11 +41,11 @@ use Rattle.sf_region.specs.Checked.Spent.{spent_view}
 use Rattle.sf_region.specs.Holdings.{Holding, Advance, entered}
 use Rattle.sf_region.specs.Marks.{forking, Mark, Arrives, History}
 use Rattle.sf_region.specs.Plays.{aimed, seen, AreSeparate, Known, IsFor, Lives, buries, child, dead, first_kid, giving, joined, leaves, left, looks, lost, moved, notes, other_kids, parent, tries, with_kids, won}
-use Rattle.sf_region.specs.Rule.{Slot, holding, untimed, parts_in, present, Rule, Waits, Law, MayBegin, opening_view, newcomer}
+use Rattle.sf_region.specs.Rule.{Slot, holding, untimed, parts_in, present, Rule, CanTry, Waits, Law, MayBegin, opening_view, newcomer}
 use Rattle.sf_region.specs.Stamps.{Stamps, units_of}
 use Rattle.sf_region.specs.Waits.{BeganAt, first_of, opening_parts, program_in}
 
-same-word : (ws : List ℕ) (i : ℕ) → i < length ws → set ws i (slice_index ws i) ≡ ws
+pub same-word : (ws : List ℕ) (i : ℕ) → i < length ws → set ws i (slice_index ws i) ≡ ws
 same-word [] i less = refl
 same-word (w ∷ ws) zero less = refl
 same-word (w ∷ ws) (suc i) less = ap (λ z. w ∷ z) (same-word ws i (omega arith))
@@ -101,11 +101,11 @@ module _ (laws : PartLaws) (about : Begun) (marks : List Mark) (s : State Slot V
 pub tries-word : PartLaws → (about : Begun) (slots id : ℕ) (me : Me Slot View) (a : Part) (r : ResId)
     (more : List Mark)
     → r.0 < slots → me.0.live ≡ true → IsAtRegion (part_of a).part r
-    → (part_of a).part.holds r ≡ false
+    → (part_of a).part.holds r ≡ false → numbers (part_of a).part.supply ≢ []
     → Advance (program_in about) (holding me.0) more (holding (moved a [] me.0))
     → Allows (Law about) slots id me (suc r.0) (λ n. either (eqb n 0) 1 n)
     (tries a (step slots (suc r.0) 0 1 none) me)
-tries-word laws b slots id me a r more less live stands idle adv s law wide at small =
+tries-word laws b slots id me a r more less live stands idle unit adv s law wide at small =
     let v : View = me.0 in
     let mv : View = moved a [] v in
     let x : ℕ = slice_index s.words (suc r.0) in
@@ -130,11 +130,11 @@ tries-word laws b slots id me a r more less live stands idle adv s law wide at s
       homes = set s.homes r.0 none;
       views = set s.views id w;
     } in
-    let at-k : IsAtRegion (part_of a).part k.resource =
-    subst (λ z. IsAtRegion (part_of a).part z) (sym is) stands in
+    let at-k : CanTry (part_of a).part k.resource =
+    subst (λ z. CanTry (part_of a).part z) (sym is) (stands, unit) in
     let hands : Hands w = λ l y e.
     let same : k ≡ y = same_Some k y e in (
-      subst (λ (z : Content). IsAtRegion (part_of a).part z.resource) same at-k,
+      subst (λ (z : Content). CanTry (part_of a).part z.resource) same at-k,
       ap (λ (z : Content). z.resource) same,
     ) in
     let lawful : Law b now = record {
@@ -200,7 +200,7 @@ tries-word laws b slots id me a r more less live stands idle adv s law wide at s
       hands = λ j u y e l h. all-hands laws b s law id v at live more own w (empty-hand w refl) j u e l
           y h;
       waits = all-wait laws b s law id v at live more own w
-          (λ _. lost-waits b law.marks v a more waited r adv stands missed);
+          (λ _. lost-waits b law.marks v a more waited r adv (stands, unit) missed);
     } in
     let known : Known w =
     knows b now lawful id w (set_here s.views id w (in_range s.views id v at)) live in (
@@ -248,24 +248,24 @@ leaves-word laws b slots id me a k rs more live deep adv refused s law wide at s
       views = set s.views id w;
     } in
     let same : a.clock ≡ v.part.clock → (v.missed ≡ k.resource)
-    × IsAtRegion (part_of a).part k.resource
+    × CanTry (part_of a).part k.resource
     × ((c : Config) → BeganAt b c → (y : Arrives (program_in b) (opening_parts b) c ms)
     × MayMiss y.config (part_of a).part.task k.resource) = λ clock.
     let still = (no-event (program_in b) (holding v) (holding mv) more adv clock).1 in
     let stood = law.hands id v k at live (ap (λ (z : Holding). z.hand) (sym still)) in
-    let stands : IsAtRegion (part_of a).part k.resource =
-    subst (λ (z : TimedPart). IsAtRegion z.part k.resource)
+    let stands : CanTry (part_of a).part k.resource =
+    subst (λ (z : TimedPart). CanTry z.part k.resource)
     (ap (λ (z : Holding). z.part) (sym still)) stood.0 in
     let hands-mv : Hands mv = λ l y e.
     let f : k ≡ y = same_Some k y e in (
-      subst (λ (z : Content). IsAtRegion (part_of a).part z.resource) f stands,
+      subst (λ (z : Content). CanTry (part_of a).part z.resource) f stands,
       stood.1 ∙ ap (λ (z : Content). z.resource) f,
     ) in (
       stood.1,
       stands,
       false-missed laws b ms (viewed s id mv) q
           (λ j u e. all-hands laws b s law id v at live more own mv hands-mv j u e)
-          id mv here live k.resource stands k refl refl (refused clock).0 (refused clock).1,
+          id mv here live k.resource stands.0 k refl refl (refused clock).0 (refused clock).1,
     ) in
     let lawful : Law b now = record {
       marks = ms;
@@ -338,11 +338,11 @@ notes-word laws b slots id me a kids more live adv s law wide at small =
 module _ (laws : PartLaws) (about : Begun) (marks : List Mark) (s : State Slot View) (q : Rule about marks s) (id : ℕ)
     (v : View) (at : get_elem? s.views id ≡ some v) (live : v.live ≡ true) (one two : Part)
     (kids : v.kids ≡ one ∷ two ∷ []) where
-  abbrev three-parts : List TimedPart
+  abbrev pub three-parts : List TimedPart
   three-parts = parts_in (cut s.views id v at).before
       ++ part_of v.part ∷ part_of one ∷ part_of two ∷ parts_in (cut s.views id v at).after
 
-  three-are : parts_in s.views ≡ three-parts
+  pub three-are : parts_in s.views ≡ three-parts
   three-are = parts-at s.views id v (cut s.views id v at) live
       ∙ ap (λ (z : List Part). parts_in (cut s.views id v at).before
       ++ part_of v.part ∷ (map part_of z ++ parts_in (cut s.views id v at).after)) kids
@@ -499,14 +499,15 @@ opens b ws slots may limit full long zeros = record {
 pub tries-at : PartLaws → (about : Begun) (slots id : ℕ) (me : Me Slot View) (a : Part) (parts : List Part)
     (r : ResId) (k : ℕ) → k ≡ suc r.0 → parts ≡ a ∷ []
     → r.0 < slots → me.0.live ≡ true → IsAtRegion (part_of a).part r
-    → (part_of a).part.holds r ≡ false → IsNear (program_in about) me.0 a
+    → (part_of a).part.holds r ≡ false → numbers (part_of a).part.supply ≢ []
+    → IsNear (program_in about) me.0 a
     → Allows (Law about) slots id me k (λ n. either (eqb n 0) 1 n)
     (λ n m. aimed parts (λ a kids. tries a (step slots k 0 1 none) me n m))
-tries-at laws b slots id me a parts r k word aim less live stands outside near =
+tries-at laws b slots id me a parts r k word aim less live stands outside unit near =
     subst (λ (z : ℕ × List Part). Allows (Law b) slots id me z.0 (λ n. either (eqb n 0) 1 n)
     (λ n m. aimed z.1 (λ a kids. tries a (step slots z.0 0 1 none) me n m)))
     (λ i. (sym word i, sym aim i))
-    (tries-word laws b slots id me a r near.0 less live stands outside near.1)
+    (tries-word laws b slots id me a r near.0 less live stands outside unit near.1)
 
 pub leaves-at : PartLaws → (about : Begun) (slots id : ℕ) (me : Me Slot View) (a : Part) (parts : List Part)
     (r : ResId) (k : ℕ) → k ≡ suc r.0 → parts ≡ a ∷ [] → me.0.live ≡ true

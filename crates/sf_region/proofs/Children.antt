@@ -46,7 +46,7 @@ module _ {A : Type 0} (before more : List A) (x y z : A) where
       (has-focus before (z ∷ more) y q i))
       (has-focus before (y ∷ z ∷ more) x q h)
 
-  beside-three : (q : A) → Contains (before ++ more) q → Contains (before ++ x ∷ y ∷ z ∷ more) q
+  pub beside-three : (q : A) → Contains (before ++ more) q → Contains (before ++ x ∷ y ∷ z ∷ more) q
   beside-three q h = has-unfocus before (y ∷ z ∷ more) x q
       (has-unfocus before (z ∷ more) y q (has-unfocus before more z q h))
 
@@ -84,12 +84,12 @@ module _ (laws : PartLaws) (b : Begun) (marks : List Mark) (m : Mark) (before mo
   fork-task : y.part.task ≡ x.part.task
   fork-task = sym e.children.task ∙ e.acts.task
 
-  fork-child : (turn : Turn) (q : TimedPart) → q.part.task ≡ y.part.task ++ turn ∷ []
+  pub fork-child : (turn : Turn) (q : TimedPart) → q.part.task ≡ y.part.task ++ turn ∷ []
       → IsChild x.part.task q.part.task
   fork-child turn q c = (turn, c ∙ ap (λ z. z ++ turn ∷ []) fork-task)
 
   -- nothing was there where a child is
-  fork-new : (path : Path) → IsChild x.part.task path → (o : TimedPart) → Contains gs o
+  pub fork-new : (path : Path) → IsChild x.part.task path → (o : TimedPart) → Contains gs o
       → o.part.task ≢ path
   fork-new path c o h f = ⊎_elim
       (λ (i : x ≡ o). child-other x.part.task (subst (λ z. IsChild x.part.task z)

@@ -47,7 +47,7 @@ path-empty : (path : Path) → same_path [] path ≡ true → path ≡ []
 path-empty [] e = refl
 path-empty (turn ∷ path) e = absurd (true≢false (sym e))
 
-first-entry : (a : WholePart) (contents : List WholeContent) (c : Config) → Whole (a ∷ [])
+pub first-entry : (a : WholePart) (contents : List WholeContent) (c : Config) → Whole (a ∷ [])
     contents c
     → a.task ≡ []
 first-entry a contents c w = go (same_path [] a.task) refl

@@ -232,7 +232,7 @@ module _ (laws : PartLaws) (b : Begun) (before after : List TimedPart) (base : L
     pub tidy : IsTidy c.part
     pub later : c.part.part.task ≡ a.part.part.task
 
-  act-stays : (marks : List Mark) (m : Mark) (a c : Holding)
+  pub act-stays : (marks : List Mark) (m : Mark) (a c : Holding)
       → Told b marks (around before a after) (placed a.hand base) → Out base (taken a)
       → IsTidy a.part → Act (program_in b) a m c
       → Stays (marks ++ m ∷ []) a c × (m.event.task ≡ a.part.part.task)

@@ -24,11 +24,13 @@ use Rattle.sf_part.specs.PartView.{part_of}
 use Rattle.sf_part.specs.Timed.{TimedPart}
 use Rattle.sf_region.specs.Checked.PartLaws.{PartLaws}
 use Rattle.sf_region.proofs.Events.{Stays, advance-stays}
+use Rattle.sf_region.proofs.Granted.{advance-granted, granted-first}
 use Rattle.sf_region.proofs.Told.{Told, placed, Out, around}
 use Rattle.sf_region.proofs.Insides.{times-cons, one_if}
 use Rattle.sf_region.proofs.Lists.{Cut, cut, in_range, has-cases, has-first, has-later, has-none}
 use Rattle.sf_region.specs.declared.views.Begun.{Begun}
 use Rattle.sf_region.specs.declared.views.View.{View}
+use Rattle.sf_region.specs.Drained.{Grants}
 use Rattle.sf_region.specs.Holdings.{group, taken, with_hand, entered, Advance}
 use Rattle.sf_region.specs.Marks.{Mark, History}
 use Rattle.sf_region.specs.Plays.{won}
@@ -176,6 +178,14 @@ module _ (laws : PartLaws) (about : Begun) (s : State Slot View) (id : ℕ) (v w
       (subst (λ z. Told about ms z r.contents) (parts-at s.views id v cs vl) (told-of r)))
       out fits.tidy adv
 
+  granted : Grants about (ms ++ es) (around (parts_in cs.before) (holding w) (parts_in cs.after))
+  granted = advance-granted laws about (parts_in cs.before) (parts_in cs.after) base ms es
+      (holding v) (holding w)
+      (subst (λ z. Told about ms (around (parts_in cs.before) (holding v) (parts_in cs.after)) z)
+      (sym (placed-cleared v.hand r.contents fits.in_hand))
+      (subst (λ z. Told about ms z r.contents) (parts-at s.views id v cs vl) (told-of r)))
+      out fits.tidy adv (subst (Grants about ms) (parts-at s.views id v cs vl) r.grants)
+
   told : Told about (ms ++ es) (parts_in (set s.views id w)) now
   told = subst (λ z. Told about (ms ++ es) z now) (sym (parts-set s.views id v w cs wl)) stays.told
 
@@ -276,6 +286,7 @@ module _ (laws : PartLaws) (about : Begun) (s : State Slot View) (id : ℕ) (v w
     start = told.start;
     history = told.history;
     stamps = told.stamps;
+    grants = subst (Grants about (ms ++ es)) (sym (parts-set s.views id v w cs wl)) granted;
     limit = r.limit;
   }
 
@@ -426,6 +437,7 @@ module _ (about : Begun) (s : State Slot View) (id : ℕ) (v : View) (ms : List 
         (sym (parts-same s.views id v ours at refl)) (q.history c began);
     stamps = subst (λ z. Stamps (first_of about) ms z q.contents)
         (sym (parts-same s.views id v ours at refl)) q.stamps;
+    grants = subst (Grants about ms) (sym (parts-same s.views id v ours at refl)) q.grants;
     limit = q.limit;
   }
 
@@ -557,6 +569,7 @@ module _ (about : Begun) (s : State Slot View) (id : ℕ) (v w : View) (ms : Lis
         q.contents))
         (sym groups-kept) (q.history c began);
     stamps = subst (λ z. Stamps (first_of about) ms z q.contents) (sym groups-kept) q.stamps;
+    grants = subst (Grants about ms) (sym groups-kept) q.grants;
     limit = q.limit;
   }
 
@@ -594,6 +607,7 @@ admits about ms s w off q =
           q.contents))
           (sym same) (q.history c began);
       stamps = subst (λ z. Stamps (first_of about) ms z q.contents) (sym same) q.stamps;
+      grants = subst (Grants about ms) (sym same) q.grants;
       limit = q.limit;
     }
 
@@ -709,6 +723,7 @@ begins about ws slots may limit full long zeros =
           (sym (present-all about.contents)) began);
       stamps = first-stamps (first_of about) (map Some about.contents) about.part.kept.waiting
           (λ r k e. may.early r k (some-at about.contents r k e));
+      grants = granted-first about;
       limit = limit;
     }
   where

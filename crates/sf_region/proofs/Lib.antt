@@ -7,6 +7,7 @@ pub mod Insides
 pub mod Told
 pub mod Children
 pub mod Events
+pub mod Granted
 pub mod Keeps
 pub mod Seats
 pub mod Stands
@@ -21,3 +22,7 @@ pub mod Opening
 pub mod Seating
 pub mod Trying
 pub mod Parted
+pub mod Used
+pub mod Looking
+pub mod Stopped
+pub mod Fresh

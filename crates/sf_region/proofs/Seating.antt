@@ -1,6 +1,6 @@
 -- What a task at a table may call, and where it stands then.
 -- Names: `may-CALL`, `seated-EVENT`.
-use Rattle.std.specs.Prelude.{◌≡◌, ◌≢◌, ◌<◌, ◌+◌, ◌⊎◌, false, List, [], ◌∷◌, ◌++◌, length, map, Some, None, Result, Ok, Err, IfOk, OnErr}
+use Rattle.std.specs.Prelude.{◌≡◌, ◌≢◌, ◌<◌, ◌⊎◌, false, List, [], ◌∷◌, ◌++◌, length, map, Some, None, Result, Ok, Err, IfOk, OnErr}
 use Rattle.std.proofs.Common.{sym, ap, ◌∙◌, refl, subst, arith, inl, inr}
 use Rattle.std.proofs.lemmas.List.{length-append}
 use Rattle.std.specs.declared.alloc.AllocError.{AllocError}
@@ -129,12 +129,14 @@ module _ (p : Program) (v : View) (a : Part) (here : program_in v.begun ≡ p) (
 
   -- a try
   pub may-try : (q : Program) (r : ResId) → q ≡ p → r.0 < length p.resources
-      → IsAtRegion (part_of a).part r → (part_of a).part.holds r ≡ false → MayTry q v a r
-  may-try q r same below stands out = subst (λ z. MayTry z v a r) (here ∙ sym same) (record {
+      → IsAtRegion (part_of a).part r → (part_of a).part.holds r ≡ false
+      → numbers (part_of a).part.supply ≢ [] → MayTry q v a r
+  may-try q r same below stands out unit = subst (λ z. MayTry z v a r) (here ∙ sym same) (record {
     resource = subst (λ (z : Program). r.0 < length z.resources) (sym here) below;
     near = h.near;
     stands = stands;
     outside = out;
+    unit = unit;
   })
 
   -- the content that was got is of the program

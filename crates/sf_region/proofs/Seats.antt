@@ -23,12 +23,14 @@ use Rattle.sf_part.specs.Supplied.{Supplied}
 use Rattle.sf_part.specs.Timed.{TimedPart}
 use Rattle.sf_region.specs.Checked.PartLaws.{PartLaws}
 use Rattle.sf_region.proofs.Insides.{outside-tidy}
+use Rattle.sf_region.proofs.Granted.{granted-among}
 use Rattle.sf_region.proofs.Keeps.{parts-at, parts-set, told-of}
 use Rattle.sf_region.proofs.Lists.{Cut, cut, has-focus, has-middle, has-none, has-unfocus, in_range, sum-focus}
 use Rattle.sf_region.proofs.Told.{Told}
 use Rattle.sf_region.proofs.Turns.{stamps-same}
 use Rattle.sf_region.specs.declared.views.Begun.{Begun}
 use Rattle.sf_region.specs.declared.views.View.{View}
+use Rattle.sf_region.specs.Drained.{Grants}
 use Rattle.sf_region.specs.Holdings.{group, taken, with_hand, entered}
 use Rattle.sf_region.specs.Marks.{Mark}
 use Rattle.sf_region.specs.Plays.{joined, with_kids}
@@ -66,7 +68,7 @@ module _ (laws : PartLaws) (before after front back : List TimedPart) (q : Timed
       (λ i. has-unfocus front back q x (subst (λ z. Contains z x) same i))
       (has-focus before after q x h)
 
-  moved-back : (x : TimedPart) → Contains news x → Contains olds x
+  pub moved-back : (x : TimedPart) → Contains news x → Contains olds x
   moved-back x h = ⊎_elim
       (λ e. subst (λ (z : TimedPart). Contains olds z) e (has-middle before after q))
       (λ i. has-unfocus before after q x (subst (λ z. Contains z x) (sym same) i))
@@ -150,6 +152,16 @@ module _ (laws : PartLaws) (about : Begun) (ms : List Mark) (s : State Slot View
       about ms q.contents
       (subst (λ z. Told about ms z q.contents) split-before (told-of q)))
 
+  split-granted : Grants about ms (parts_in views)
+  split-granted = subst (Grants about ms) (sym split-after) (granted-among about ms
+      ((front ++ part_of v.part ∷ []) ++ part_of k ∷ (map part_of ks ++ back))
+      ((front ++ part_of v.part ∷ (map part_of ks ++ back)) ++ part_of k ∷ [])
+      (subst (Grants about ms) split-before q.grants)
+      (λ x h. moved-back laws (front ++ part_of v.part ∷ []) (map part_of ks ++ back)
+      (front ++ part_of v.part ∷ (map part_of ks ++ back)) [] (part_of k)
+      (append_assoc front (part_of v.part ∷ []) (map part_of ks ++ back)
+      ∙ sym (append-nil (front ++ part_of v.part ∷ (map part_of ks ++ back)))) x h))
+
   mine : Fits about q.contents q.owner s.words id v
   mine = q.each id v at live
 
@@ -213,6 +225,7 @@ module _ (laws : PartLaws) (about : Begun) (ms : List Mark) (s : State Slot View
     start = q.start;
     history = split-told.history;
     stamps = split-told.stamps;
+    grants = split-granted;
     limit = q.limit;
   }
 
@@ -292,6 +305,16 @@ module _ (laws : PartLaws) (about : Begun) (ms : List Mark) (s : State Slot View
       join-rest about ms q.contents
       (subst (λ z. Told about ms z q.contents) join-before (told-of q))))
 
+  join-granted : Grants about ms (parts_in (set (set s.views id both) other spent))
+  join-granted = subst (λ z. Grants about ms (parts_in z))
+      (sym (set-either s.views id other both spent apart))
+      (subst (Grants about ms) (sym join-after) (granted-among about ms
+      (front-u ++ part_of u.part ∷ back-u)
+      ((front-v ++ part_of v.part ∷ kids-v) ++ part_of u.part ∷ back-v)
+      (subst (Grants about ms) join-before q.grants)
+      (λ x h. moved-back laws front-u back-u (front-v ++ part_of v.part ∷ kids-v) back-v
+      (part_of u.part) join-rest x h)))
+
   join-fits : Fits about q.contents q.owner s.words id both
   join-fits = let f = q.each id v at live in record {
     begun = f.begun;
@@ -347,5 +370,6 @@ module _ (laws : PartLaws) (about : Begun) (ms : List Mark) (s : State Slot View
     start = q.start;
     history = join-told.history;
     stamps = join-told.stamps;
+    grants = join-granted;
     limit = q.limit;
   }

@@ -3,6 +3,7 @@
 -- of a
 -- view after that kind of step.
 use Rattle.std.specs.Prelude.{◌≡◌, ◌≢◌, ◌⊎◌, ◌==◌, ◌+◌, ◌<◌, ◌≤◌, ℕ, zero, suc, cond, Bool, true, false, List, [], ◌∷◌, ◌++◌, map, take, length, slice_index, Option, Some, None, Contains, flat_map}
+use Rattle.std.specs.List.{sum_by}
 use Rattle.std.proofs.Common.{set, sym, ap, ◌∙◌, refl, subst, inl, inr, ⊎_elim, arith, append-nil, eq-eqb, ne_eqb}
 use Rattle.std.proofs.lemmas.List.{length-append, map-append, take-append-le, take_all}
 use Rattle.std.proofs.lemmas.List.Elements.{Contains-append_left, Contains-append_right}
@@ -24,7 +25,7 @@ use Rattle.sf_core.specs.Machine.Config.{Fixed, runs, Path, Config, evaluate}
 use Rattle.sf_core.specs.Machine.Enabled.{variable, ReadsTest}
 use Rattle.sf_core.specs.Machine.SpentWaits.{MayMiss}
 use Rattle.sf_core.specs.Machine.SpentWaits as waits
-use Rattle.sf_core.specs.Machine.Whole.{Part as WholePart, Content as WholeContent, Whole}
+use Rattle.sf_core.specs.Machine.Whole.{Part as WholePart, Content as WholeContent, Whole, numbers}
 use Rattle.sf_core.specs.Program.Syntax.{with}
 use Rattle.sf_part.proofs.Entries.{next-shape}
 use Rattle.sf_part.specs.Checked.Laws.{PartsInAnyOrder}
@@ -39,15 +40,16 @@ use Rattle.sf_part.specs.Steps.{HasInHand}
 use Rattle.sf_part.specs.Timed.{TimedPart}
 use Rattle.sf_region.specs.Checked.PartLaws.{PartLaws}
 use Rattle.sf_region.proofs.Keeps.{live-group, parts-at}
-use Rattle.sf_region.proofs.Lists.{at-has, others-at, cut, in_range, has-cases, has-first, has-later, has-none, present-append}
+use Rattle.sf_region.proofs.Lists.{at-has, others-at, cut, in_range, has-cases, has-first, has-later, has-none, present-append, sum-focus}
 use Rattle.sf_region.proofs.Runs.{history-arrives, task-apart}
 use Rattle.sf_region.specs.declared.views.Begun.{Begun}
 use Rattle.sf_region.specs.declared.views.View.{View}
 use Rattle.sf_region.specs.Holdings.{Holding, taken, with_hand, entered, Does, Act, Advance}
 use Rattle.sf_region.specs.Marks.{Kind, private, entry, exit, forking, joining, Mark, Arrives}
 use Rattle.sf_region.specs.Plays.{Known, moved, won, lost, giving, left, bump, since}
-use Rattle.sf_region.specs.Rule.{Slot, holding, group_of, parts_in, untimed, present, IsTidy, Rule, Waits, Law}
-use Rattle.sf_region.specs.Waits.{BeganAt, Places, Missed, opening_parts, program_in}
+use Rattle.sf_region.specs.Rule.{Slot, holding, group_of, parts_in, untimed, present, IsTidy, Rule, CanTry, Waits, Law}
+use Rattle.sf_region.specs.Stamps.{units_of}
+use Rattle.sf_region.specs.Waits.{BeganAt, Places, Missed, first_of, opening_parts, program_in}
 
 pub places-none : (b : Begun) (marks : List Mark) (t : Path) (r : ResId) → Places b marks t r 0
 places-none b marks t r = record {
@@ -175,7 +177,7 @@ module _ (p : Rattle.sf_core.specs.Program.Syntax.Program) where
   advance-push a c d (x ∷ marks) m (between, first, rest) act =
       (between, first, advance-push between c d marks m rest act)
 
-  advance-clock : (a c : Holding) (marks : List Mark) → Advance p a marks c
+  pub advance-clock : (a c : Holding) (marks : List Mark) → Advance p a marks c
       → a.part.clock + length marks ≤ c.part.clock
   advance-clock a c [] e = let h = ap (λ (z : Holding). z.part.clock) e in omega arith
   advance-clock a c (x ∷ marks) (m, act, rest) =
@@ -293,7 +295,7 @@ tidy-holds a r tidy h =
 -- of a view with a content in hand
 abbrev pub Hands : View → Type 0
 Hands v = v.live ≡ true → (k : Content) → v.hand ≡ Some k
-    → IsAtRegion (part_of v.part).part k.resource × (v.missed ≡ k.resource)
+    → CanTry (part_of v.part).part k.resource × (v.missed ≡ k.resource)
 
 -- what a region's condition reads is there, with the content in hand
 abbrev pub ReadsThere : WholePart → Content → Type 0
@@ -370,7 +372,7 @@ module _ (laws : PartLaws) (b : Begun) (marks : List Mark) (s : State Slot View)
           go (Some k) is i = ⊎_elim
               (λ (f : k.resource.0 ≡ r.0).
               let same : k.resource ≡ r = λ m. record { 0 = f m } in
-              let at' = (hands j u g ul k is).0 in
+              let at' = (hands j u g ul k is).0.0 in
               inr (
                 (part_of u.part).part.task,
                 apart,
@@ -479,7 +481,7 @@ module _ (b : Begun) (marks : List Mark) (v : View) (a : Part) (more : List Mark
       → Advance (program_in b) (holding v) more
       (record { hand = h; part = part_of a; kids = ks })
       → Places b (marks ++ more) t v.missed (since a v)
-      × (0 < since a v → IsAtRegion (part_of a).part v.missed)
+      × (0 < since a v → CanTry (part_of a).part v.missed)
   kept-waits h ks adv = dite (ℕ_discrete a.clock v.part.clock)
       (λ e.
       let none = no-event (program_in b) (holding v)
@@ -490,7 +492,7 @@ module _ (b : Begun) (marks : List Mark) (v : View) (a : Part) (more : List Mark
       let list : marks ++ more ≡ marks = ap (λ z. marks ++ z) none.0 ∙ append-nil marks in (
         subst (λ (z : List Mark × (TimedPart × ℕ)). Places b z.0 z.1.0.part.task v.missed z.1.1)
             (λ i. (sym list i, (sym part i, sym count i))) w.places,
-        λ some'. subst (λ (z : TimedPart). IsAtRegion z.part v.missed) (sym part)
+        λ some'. subst (λ (z : TimedPart). CanTry z.part v.missed) (sym part)
             (w.stood (omega arith)),
       ))
       (λ ne.
@@ -502,12 +504,12 @@ module _ (b : Begun) (marks : List Mark) (v : View) (a : Part) (more : List Mark
 
   -- the same at the region at which the task stands
   kept-at : (r : ResId) (n : ℕ) → IsAtRegion (part_of a).part r
-      → Places b (marks ++ more) t v.missed n × (0 < n → IsAtRegion (part_of a).part v.missed)
+      → Places b (marks ++ more) t v.missed n × (0 < n → CanTry (part_of a).part v.missed)
       → Places b (marks ++ more) t r n
   kept-at r zero here p = places-none b (marks ++ more) t r
   kept-at r (suc n) here p = subst (λ z. Places b (marks ++ more) t z (suc n))
       (Rattle.sf_region.proofs.Stands.region-one (part_of a).part v.missed r
-      (p.1 (omega arith)) here) p.0
+      (p.1 (omega arith)).0 here) p.0
 
   pub moved-waits : (ks : List Part)
       → Advance (program_in b) (holding v) more (holding (moved a ks v))
@@ -516,14 +518,14 @@ module _ (b : Begun) (marks : List Mark) (v : View) (a : Part) (more : List Mark
       let k = kept-waits None (map part_of ks) adv in record { places = k.0; stood = k.1 }
 
   pub won-waits : (k : Content) → Advance (program_in b) (holding v) more (holding (moved a [] v))
-      → IsAtRegion (part_of a).part k.resource → Waits b (marks ++ more) (won k (moved a [] v))
+      → CanTry (part_of a).part k.resource → Waits b (marks ++ more) (won k (moved a [] v))
   won-waits k adv here = record {
-    places = kept-at k.resource (since a v) here (kept-waits None [] adv);
+    places = kept-at k.resource (since a v) here.0 (kept-waits None [] adv);
     stood = λ _. here;
   }
 
   pub lost-waits : (r : ResId) → Advance (program_in b) (holding v) more (holding (moved a [] v))
-      → IsAtRegion (part_of a).part r
+      → CanTry (part_of a).part r
       → ((c : Config) → BeganAt b c
       → (x : Arrives (program_in b) (opening_parts b) c (marks ++ more)) × MayMiss x.config t r)
       → Waits b (marks ++ more) (lost r (moved a [] v))
@@ -532,14 +534,14 @@ module _ (b : Begun) (marks : List Mark) (v : View) (a : Part) (more : List Mark
         let n : ℕ = since a v in
         places-fewer b (marks ++ more) t r (bump n) (n + 1) (omega arith)
         (places-add b (marks ++ more) t r n missed
-        (kept-at r n here (kept-waits None [] adv)));
+        (kept-at r n here.0 (kept-waits None [] adv)));
     stood = λ _. here;
   }
 
   pub left-waits : (k : Content)
       → Advance (program_in b) (holding v) more (holding (giving k a v))
       → (a.clock ≡ v.part.clock → (v.missed ≡ k.resource)
-      × IsAtRegion (part_of a).part k.resource
+      × CanTry (part_of a).part k.resource
       × ((c : Config) → BeganAt b c
       → (x : Arrives (program_in b) (opening_parts b) c (marks ++ more))
       × MayMiss x.config t k.resource))
@@ -560,7 +562,7 @@ module _ (b : Begun) (marks : List Mark) (v : View) (a : Part) (more : List Mark
       record {
         places = subst (λ (z : ResId × ℕ). Places b (marks ++ more) t z.0 z.1)
             (λ i. (sym f.0 i, sym now i)) new;
-        stood = λ _. subst (λ z. IsAtRegion (part_of a).part z) (sym f.0) f.1;
+        stood = λ _. subst (λ z. CanTry (part_of a).part z) (sym f.0) f.1;
       })
       (λ ne.
       let now : (left a v).misses ≡ 0 = ap (λ z. cond z (bump v.misses) 0)
@@ -571,13 +573,36 @@ module _ (b : Begun) (marks : List Mark) (v : View) (a : Part) (more : List Mark
         stood = λ h. absurd (omega arith);
       })
 
+-- what has a unit has one at least
+some-unit : (ns : List ℕ) → ns ≢ [] → 0 < length ns
+some-unit [] ne = absurd (ne refl)
+some-unit (n ∷ ns) ne = omega arith
+
+-- while a task has a unit, not all of those with which the table began are used
+still-left : (b : Begun) (marks : List Mark) (s : State Slot View) → Rule b marks s → (id : ℕ) (v : View)
+    → get_elem? s.views id ≡ some v → v.live ≡ true → numbers (part_of v.part).part.supply ≢ []
+    → length marks < units_of (first_of b)
+still-left b marks s q id v e live unit =
+    let before = parts_in (cut s.views id v e).before in
+    let after = (holding v).kids ++ parts_in (cut s.views id v e).after in
+    let parts = ap (sum_by units_of) (parts-at s.views id v (cut s.views id v e) live) in
+    let all = sum-focus units_of before after (part_of v.part) in
+    let one = some-unit (numbers (part_of v.part).part.supply) unit in
+    let supply = q.stamps.supply in
+    omega arith
+
 -- what a seat's view stands for
 pub knows : (b : Begun) (s : State Slot View) (law : Law b s) (id : ℕ) (v : View)
     → get_elem? s.views id ≡ some v → v.live ≡ true → Known v
 knows b s law id v e live = subst
     (λ (z : Begun). Missed z (part_of v.part).part.task v.missed v.misses)
     (sym (law.rule.each id v e live).begun)
-    (record { marks = law.marks; places = (law.waits id v e live).places })
+    (record {
+      marks = law.marks;
+      places = (law.waits id v e live).places;
+      left = λ some'. still-left b law.marks s law.rule id v e live
+          ((law.waits id v e live).stood some').1;
+    })
 
 -- a view without misses stands for nothing
 pub unmissed : (v : View) → 0 ≡ v.misses → Known v
@@ -585,4 +610,5 @@ unmissed v e = record {
   marks = [];
   places = subst (λ n. Places v.begun [] (part_of v.part).part.task v.missed n) e
       (places-none v.begun [] (part_of v.part).part.task v.missed);
+  left = λ some'. absurd (omega arith);
 }

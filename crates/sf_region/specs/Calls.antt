@@ -1,6 +1,6 @@
 -- Calls: when a task may call the table, and what it is told.
 -- Hoare, "Towards a Theory of Parallel Programming" (1972); O'Hearn (2007) for what crosses.
-use Rattle.std.specs.Prelude.{◌≡◌, ◌<◌, false, List, [], length}
+use Rattle.std.specs.Prelude.{◌≡◌, ◌≢◌, ◌<◌, false, List, [], length}
 use Rattle.sf_base.specs.declared.ids.ResId.{ResId}
 use Rattle.sf_base.specs.declared.path.Turn.{Turn}
 use Rattle.sf_core.specs.declared.assertion.Test.{Test}
@@ -9,7 +9,7 @@ use Rattle.sf_core.specs.Assertions.Sat.{IsTrueOf}
 use Rattle.sf_core.specs.Machine.Config.{Frame, Fixed, runs, evaluate}
 use Rattle.sf_core.specs.Machine.Enabled.{HasEnded}
 use Rattle.sf_core.specs.Machine.Step.{Event}
-use Rattle.sf_core.specs.Machine.Whole.{running}
+use Rattle.sf_core.specs.Machine.Whole.{numbers, running}
 use Rattle.sf_core.specs.Program.Syntax.{Program}
 use Rattle.sf_frame.specs.Stores.{together}
 use Rattle.sf_part.specs.declared.content.Content.{Content}
@@ -32,12 +32,14 @@ use Rattle.sf_region.specs.Waits.{first_of}
 abbrev pub IsNear : Program → View → Part → Type 0
 IsNear p v a = (marks : List Mark) × Advance p (holding v) marks (holding (moved a [] v))
 
--- MayTry: a task that stands at a region, which it isn't inside of yet, may try it
+-- MayTry: a task that stands at a region, which it isn't inside of yet, with a unit left for the
+-- entry, may try it
 pub record MayTry (p : Program) (v : View) (a : Part) (r : ResId) : Type 0 where
   pub resource : r.0 < length p.resources
   pub near : IsNear p v a
   pub stands : IsAtRegion (part_of a).part r
   pub outside : (part_of a).part.holds r ≡ false
+  pub unit : numbers (part_of a).part.supply ≢ []
 
 -- the view after a try, and what a content that is got may be relied on for
 abbrev pub Tells : Part → ResId → (before after : View) → Entry → Type 0

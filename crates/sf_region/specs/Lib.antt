@@ -2,6 +2,7 @@ pub mod Marks
 pub mod Holdings
 pub mod Stamps
 pub mod Waits
+pub mod Drained
 pub mod Receipt
 pub mod Rule
 pub mod Plays

@@ -27,14 +27,20 @@ abbrev pub HasLeft : Program → (before after : TimedPart) → Type 0
 HasLeft p before after = (event : Event) × (content : TimedContent)
     × Gives p event before content after
 
--- it has missed: its part is as it was, and the view counts one miss more since the last event
-pub record HasMissed (r : ResId) (v : View) (before : Part) (w : View) (after : Part) : Type 0 where
-  pub same : part_of after ≡ part_of before
-  pub resource : w.missed ≡ r
-  pub count : w.misses ≡ bump (since before v)
-
 -- the seat has seen the part as it now is, with nothing in hand and no children beside it
 pub record IsAtRest (v : View) (a : Part) : Type 0 where
   pub hand : v.hand ≡ None
   pub part : v.part ≡ a
   pub kids : v.kids ≡ []
+
+-- it has missed: its part is as it was, the seat has seen it, and the view counts one miss more
+-- since the last event
+pub record HasMissed (r : ResId) (v : View) (before : Part) (w : View) (after : Part) : Type 0 where
+  pub same : part_of after ≡ part_of before
+  pub rest : IsAtRest w after
+  pub resource : w.missed ≡ r
+  pub count : w.misses ≡ bump (since before v)
+
+-- no miss of it counts: it had an event since its last one, or there was none
+abbrev pub HasNoMisses : View → Part → Type 0
+HasNoMisses v a = since a v ≡ 0

@@ -9,7 +9,7 @@ use Rattle.sf_base.specs.declared.limits.TheConstants.{STEPS}
 use Rattle.sf_base.specs.declared.path.Turn.TheVariants.{Left as left_turn, Right as right_turn}
 use Rattle.sf_base.specs.HeapStore.{own}
 use Rattle.sf_core.specs.Machine.Config.{Config}
-use Rattle.sf_core.specs.Machine.Whole.{Part as WholePart, numbers}
+use Rattle.sf_core.specs.Machine.Whole.{Part as WholePart, running, numbers}
 use Rattle.sf_part.specs.declared.content.Content.{Content}
 use Rattle.sf_part.specs.declared.part.Part.{Part}
 use Rattle.sf_part.specs.Contents.{content_of}
@@ -19,6 +19,7 @@ use Rattle.sf_part.specs.Steps.{HasChildren, IsChild}
 use Rattle.sf_part.specs.Timed.{TimedPart}
 use Rattle.sf_region.specs.declared.views.Begun.{Begun}
 use Rattle.sf_region.specs.declared.views.View.{View}
+use Rattle.sf_region.specs.Drained.{Drained, IsGoing}
 use Rattle.sf_region.specs.Marks.{Mark, History}
 use Rattle.sf_region.specs.Rule.{Slot, IsExactly, newcomer, untimed, present}
 use Rattle.sf_region.specs.Stamps.{Stamps, units_of}
@@ -212,6 +213,30 @@ looks m n = (n ≡ m) × ((one two : Part) → m.0.kids ≡ one ∷ two ∷ []
     → IsChild (part_of m.0.part).part left_turn (part_of one).part
     → IsChild (part_of m.0.part).part right_turn (part_of two).part
     → AreSeparate (part_of m.0.part) (part_of one) (part_of two))
+
+-- a task that would go on has no unit left
+abbrev pub IsSpent : TimedPart → Type 0
+IsSpent a = IsGoing a × (numbers a.part.supply ≡ [])
+
+-- a task's two children have ended, and neither has a unit left
+pub record AreSpent (a one two : TimedPart) : Type 0 where
+  pub left : IsChild a.part left_turn one.part
+  pub right : IsChild a.part right_turn two.part
+  pub left_ended : one.part.stand ≡ running []
+  pub right_ended : two.part.stand ≡ running []
+  pub none : numbers one.part.supply ++ numbers two.part.supply ≡ []
+
+-- the events have used up what the task of a part was given
+abbrev pub IsDrained : Begun → TimedPart → Type 0
+IsDrained b a = Drained b a.part.task a.given
+
+-- what a load of word 0 tells of a view's task that would go on without a unit, or waits for two
+-- children that have ended without one
+abbrev pub drains : Me Slot View → Me Slot View → Type 0
+drains m n = (n ≡ m) × (IsSpent (part_of m.0.part) → IsDrained m.0.begun (part_of m.0.part))
+    × ((one two : Part) → m.0.kids ≡ one ∷ two ∷ []
+    → AreSpent (part_of m.0.part) (part_of one) (part_of two)
+    → IsDrained m.0.begun (part_of m.0.part))
 
 -- a seat's place with no part: it carries what a receipt says
 abbrev pub dead : View → View

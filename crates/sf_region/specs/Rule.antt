@@ -8,7 +8,7 @@ use Rattle.atomic_table.specs.Table.{State}
 use Rattle.sf_base.specs.declared.ids.ResId.{ResId}
 use Rattle.sf_base.specs.declared.limits.TheConstants.{STEPS}
 use Rattle.sf_core.specs.Machine.Config.{Config}
-use Rattle.sf_core.specs.Machine.Whole.{Part as WholePart, Content as WholeContent}
+use Rattle.sf_core.specs.Machine.Whole.{Part as WholePart, Content as WholeContent, numbers}
 use Rattle.sf_core.specs.Program.Syntax.{Program}
 use Rattle.sf_part.specs.declared.content.Content.{Content}
 use Rattle.sf_part.specs.declared.part.Part.{Part}
@@ -19,6 +19,7 @@ use Rattle.sf_part.specs.PartView.{IsPartOf, part_of}
 use Rattle.sf_part.specs.Timed.{TimedPart}
 use Rattle.sf_region.specs.declared.views.Begun.{Begun}
 use Rattle.sf_region.specs.declared.views.View.{View}
+use Rattle.sf_region.specs.Drained.{Grants}
 use Rattle.sf_region.specs.Holdings.{Holding, group, taken, entered}
 use Rattle.sf_region.specs.Marks.{Mark, History}
 use Rattle.sf_region.specs.Stamps.{Stamps, units_of}
@@ -103,20 +104,25 @@ pub record Rule (about : Begun) (marks : List Mark) (s : State Slot View) : Type
       → History (program_in about) (opening_parts about) c marks (untimed (parts_in s.views))
       (present contents)
   pub stamps : Stamps (first_of about) marks (parts_in s.views) contents
+  pub grants : Grants about marks (parts_in s.views)
   pub limit : (first_of about).clock + units_of (first_of about) ≤ STEPS
 
--- Waits: a view's misses have their places in the list, and its task stands at that region
+-- CanTry: the part's task stands at a region of the resource, with a unit left for its entry
+abbrev pub CanTry : WholePart → ResId → Type 0
+CanTry a r = IsAtRegion a r × (numbers a.supply ≢ [])
+
+-- Waits: a view's misses have their places in the list, and its task can try that region
 pub record Waits (about : Begun) (marks : List Mark) (v : View) : Type 0 where
   pub places : Places about marks (part_of v.part).part.task v.missed v.misses
-  pub stood : 0 < v.misses → IsAtRegion (part_of v.part).part v.missed
+  pub stood : 0 < v.misses → CanTry (part_of v.part).part v.missed
 
--- Law: the rule, and what is so of each live view with it: with a content in hand, its task stands
--- at a region of that resource; and its misses have their places
+-- Law: the rule, and what is so of each live view with it: with a content in hand, its task can try
+-- a region of that resource; and its misses have their places
 pub record Law (about : Begun) (s : State Slot View) : Type 0 where
   pub marks : List Mark
   pub rule : Rule about marks s
   pub hands : (id : ℕ) (v : View) (k : Content) → get_elem? s.views id ≡ some v → v.live ≡ true
-      → v.hand ≡ Some k → IsAtRegion (part_of v.part).part k.resource × (v.missed ≡ k.resource)
+      → v.hand ≡ Some k → CanTry (part_of v.part).part k.resource × (v.missed ≡ k.resource)
   pub waits : (id : ℕ) (v : View) → get_elem? s.views id ≡ some v → v.live ≡ true
       → Waits about marks v
 

@@ -15,6 +15,7 @@ use Rattle.sf_part.specs.PartView.{part_of}
 use Rattle.sf_part.specs.Timed.{TimedPart}
 use Rattle.sf_region.specs.declared.views.Begun.{Begun}
 use Rattle.sf_region.specs.Marks.{Mark, Arrives}
+use Rattle.sf_region.specs.Stamps.{units_of}
 
 -- the program of a table, and the part with which it began
 abbrev pub program_in : Begun → Program
@@ -47,7 +48,8 @@ pub record Places (b : Begun) (marks : List Mark) (task : Path) (r : ResId) (cou
         → (a : Arrives (program_in b) (opening_parts b) c (take (place k) marks))
         × MayMiss a.config task r
 
--- Missed: some list of events has such places
+-- Missed: some list of events has such places, and leaves units of those with which the table began
 pub record Missed (b : Begun) (task : Path) (r : ResId) (count : ℕ) : Type 0 where
   pub marks : List Mark
   pub places : Places b marks task r count
+  pub left : 0 < count → length marks < units_of (first_of b)

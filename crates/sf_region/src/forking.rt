@@ -13,7 +13,7 @@ ghost use Rattle.sf_part.specs.PartView.{part_of};
 ghost use Rattle.sf_part.specs.Steps.{Joins};
 ghost use Rattle.sf_part.specs.Timed.{TimedPart};
 ghost use Rattle.sf_region.specs.Waits.{program_in};
-ghost use Rattle.sf_region.specs.Meeting.{IsAtRest};
+ghost use Rattle.sf_region.specs.Meeting.{HasNoMisses, IsAtRest};
 
 use crate::regions::Regions;
 use crate::task::Task;
@@ -50,6 +50,7 @@ impl<'p> Task<'p> {
             × IsAtRest t.2.0.1 t.2.1) }
         ensures none { result ≡ Err PartFault.NoFootprint
             → HasNoShares (program_of p.now.program) (part_of self.entry.1) }
+        ensures fresh { IfOk result (λ t. HasNoMisses t.1.0.1 t.1.1 × HasNoMisses t.2.0.1 t.2.1) }
     {
         let Task { mut part, mut seat } = self;
         if let Err(_) = part.make_room() {
@@ -104,6 +105,7 @@ impl<'p> Task<'p> {
             → GoesTo (program_of p.now.program) before (part_of t.1)) }
         ensures table { IfOk result (λ t. (t.0.0 ≡ self.entry.0.0)
             × (t.0.1.begun ≡ self.entry.0.1.begun)) }
+        ensures fresh { IfOk result (λ t. HasNoMisses t.0.1 t.1) }
     {
         ended_children_may_be_taken_back();
         joins_go_on();

@@ -4,8 +4,9 @@
 //!   `steps` and `entry`: what a seat knows, the steps on words, and what a try comes to.
 //! - `task`: one task, its part and its seat together, its own steps, and how a table begins and is
 //!   closed with it; `starting`: the task with which a run begins.
-//! - `meeting`: the regions that a task enters and leaves; `forking`: its parallel calls.
-//! - `laws`: what the events of a task at a table keep.
+//! - `meeting`: the regions that a task enters and leaves; `forking`: its parallel calls;
+//!   `spending`: what is told of a task that would go on and has no unit left.
+//! - `laws`: what the events of a task at a table keep, and what a spent task comes to.
 #![tactic(auto)]
 
 mod entry;
@@ -15,6 +16,7 @@ mod meeting;
 mod part_laws;
 mod receipt;
 mod regions;
+mod spending;
 mod starting;
 mod steps;
 mod task;

@@ -9,7 +9,7 @@ ghost use Rattle.sf_part.specs.Going.{GoesTo};
 ghost use Rattle.sf_part.specs.Leaving.{HasNoContent};
 ghost use Rattle.sf_part.specs.PartView.{part_of};
 ghost use Rattle.sf_region.specs.Waits.{program_in};
-ghost use Rattle.sf_region.specs.Meeting.{HasEntered, HasLeft, HasMissed};
+ghost use Rattle.sf_region.specs.Meeting.{HasEntered, HasLeft, HasMissed, HasNoMisses};
 
 use crate::entry::Entry;
 use crate::laws::still_clocks_have_no_event;
@@ -47,6 +47,7 @@ impl<'p> Task<'p> {
             (part_of self.entry.1) (part_of t.0.1)) }
         ensures missed { IfOk result (λ t. t.1 ≡ false
             → HasMissed r self.entry.0.1 self.entry.1 t.0.0.1 t.0.1) }
+        ensures fresh { IfOk result (λ t. t.1 ≡ true → HasNoMisses t.0.0.1 t.0.1) }
     {
         conditions_from_truncation();
         regions_are_outside();
@@ -92,6 +93,7 @@ impl<'p> Task<'p> {
             → HasNoContent (program_of p.now.program) (part_of self.old.1).part r }
         ensures err { OnErr result ((part_of self.new.1 ≡ part_of self.old.1)
             × (self.new.0 ≡ self.old.0)) }
+        ensures fresh { OnOk result (HasNoMisses self.new.0.1 self.new.1) }
     {
         still_clocks_have_no_event();
         if let Err(_) = self.part.make_room() {

@@ -1,4 +1,4 @@
-//! What the table needs to know of parts.
+//! What the table needs to know of parts, and of what tasks have used.
 
 ghost use Rattle.sf_region.specs.Checked.PartLaws.{PartLaws};
 
@@ -10,8 +10,12 @@ use sf_part::whole::{
     children_are_apart, conditions_are_seen_alike, contents_are_apart, parts_hold,
     running_entries_are_alone, running_parts_run, waiting_parts_wait,
 };
+use sf_spend::{
+    counted_lists_are_numbered, counts_are_unique, counts_begin_anew, counts_divide,
+    counts_stay_balanced, numbered_lists_are_counted, spending_lists_are_counted,
+};
 
-/// The laws of parts on which the table stands. It does nothing.
+/// The laws on which the table stands. It does nothing.
 pub(crate) fn part_laws()
     ensures { PartLaws }
 {
@@ -28,4 +32,11 @@ pub(crate) fn part_laws()
     conditions_are_seen_alike();
     contents_are_apart();
     children_are_apart();
+    numbered_lists_are_counted();
+    counted_lists_are_numbered();
+    spending_lists_are_counted();
+    counts_are_unique();
+    counts_divide();
+    counts_stay_balanced();
+    counts_begin_anew();
 }

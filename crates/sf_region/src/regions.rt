@@ -2,6 +2,7 @@
 
 ghost use Rattle.std.specs.Mem.Slots.{IsFull, slots_items, slots_len};
 ghost use Rattle.std.specs.Prelude.{◌≡◌, ◌<◌, ◌≤◌, ◌==◌, cond, suc, IfOk, IfSome, IsSome, length, List, [], ◌∷◌, ◌++◌, map, replicate, Some, true, vec_capacity};
+ghost use Rattle.sf_core.specs.Machine.Whole.{numbers};
 ghost use Rattle.sf_part.specs.PartView.{part_of};
 ghost use Rattle.sf_base.specs.declared.path.Turn.TheVariants.{Left as left_turn, Right as right_turn};
 ghost use Rattle.sf_part.specs.declared.content.Content.{Content as K};
@@ -9,7 +10,7 @@ ghost use Rattle.sf_region.specs.Calls.{IsNear, MayClose, MayEnd, MayLeave, MayS
 ghost use Rattle.sf_region.specs.declared.entry.Entry.TheVariants.{Entered};
 ghost use Rattle.sf_region.specs.Keys.{begun_of, begun_with};
 ghost use Rattle.sf_region.specs.Holdings.{entered, taken};
-ghost use Rattle.sf_region.specs.Plays.{AreSeparate, Finished, IsThere, bump, hollow, left, moved, with_kids};
+ghost use Rattle.sf_region.specs.Plays.{AreSeparate, Finished, IsDrained, IsSpent, IsThere, bump, hollow, left, moved, with_kids};
 ghost use Rattle.sf_region.specs.Rule.{MayBegin, holding, opening_view, newcomer};
 ghost use Rattle.sf_region.specs.Waits.{program_in};
 
@@ -17,7 +18,8 @@ use crate::entry::Entry;
 use crate::part_laws::part_laws;
 use crate::receipt::{Closed, Misses};
 use crate::steps::{
-    FirstChild, Key, Ruled, bury_word, fork_word, leave_word, look_word, note_word, try_word,
+    FirstChild, Key, Ruled, bury_word, drain_word, fork_word, leave_word, look_word, note_word,
+    try_word,
 };
 use crate::views::View;
 use atomic_table::{Closed as Emptied, Seat, Table};
@@ -346,6 +348,44 @@ impl<'p> Regions<'p> {
         look_word(&self.table.shared, &mut seat.seat);
     }
 
+    /// Tells the table the part as it now is, of a task that would go on and has no unit left:
+    /// events have used up what it was given. No memory is taken, and nothing is waited for.
+    pub fn tell_spent(&self, seat: RegionSeat<'p>, part: &Part<'p>)
+        requires table { seat.0 ≡ self.now.0 }
+        requires near { IsNear (program_in self.now.1) seat.1 part.now }
+        requires spent { IsSpent (part_of part.now) }
+        ensures { IsDrained seat.entry.1.begun (part_of part.now) }
+    {
+        part_laws();
+        let RegionSeat { seat: mut own, .. } = seat;
+        note_word::<Brand>(&self.table.shared, &mut own, part);
+        drain_word(&self.table.shared, &mut own);
+    }
+
+    /// The same of a task that waits for two children that have ended, where neither has a unit
+    /// left for the join. No memory is taken, and nothing is waited for.
+    pub fn tell_spent_join(
+        &self,
+        seat: RegionSeat<'p>,
+        left: RegionSeat<'p>,
+        left_part: &Part<'p>,
+        right: RegionSeat<'p>,
+        right_part: &Part<'p>,
+    )
+        requires table { (seat.0 ≡ self.now.0) × (left.0 ≡ self.now.0) × (right.0 ≡ self.now.0) }
+        requires alone { seat.1.kids ≡ [] }
+        requires left { MayEnd (program_in self.now.1) seat.1 left_turn left.1 left_part.now }
+        requires right { MayEnd (program_in self.now.1) seat.1 right_turn right.1 right_part.now }
+        requires spent { numbers (part_of left_part.now).part.supply
+            ++ numbers (part_of right_part.now).part.supply ≡ [] }
+        ensures { IsDrained seat.entry.1.begun (part_of seat.entry.1.part) }
+    {
+        let mut seat = seat;
+        self.join(&mut seat, left, left_part, right, right_part);
+        let RegionSeat { seat: mut own, .. } = seat;
+        drain_word(&self.table.shared, &mut own);
+    }
+
     /// A receipt for the misses of the seat's task since its last event. No memory is taken.
     pub fn misses(&self, seat: &RegionSeat<'p>) -> Misses<'p>
         requires { 0 < seat.now.1.misses }
@@ -367,6 +407,7 @@ impl<'p> Regions<'p> {
         requires table { seat.0 ≡ self.0 }
         requires may { MayClose (program_in self.1) seat.1 part.now }
         ensures finished { Finished seat.entry.1.begun (part_of part.now) result.0.items }
+        ensures each { length result.0.items ≡ length (program_in self.entry.1).resources }
         ensures receipt { result.1 ≡ seat.entry.1.begun }
     {
         part_laws();

@@ -1,16 +1,17 @@
 //! The steps on the words of a table. A step can't see the arguments of the call that makes it, so
 //! the call names them by ghosts.
 
-ghost use Rattle.std.specs.Prelude.{◌≡◌, ◌<◌, ◌+◌, suc, [], ◌∷◌, true, false};
+ghost use Rattle.std.specs.Prelude.{◌≡◌, ◌≢◌, ◌<◌, ◌+◌, suc, [], ◌∷◌, true, false};
 ghost use mathlib.Core.Option.{none};
 ghost use Rattle.atomic_table.specs.Table.{step};
+ghost use Rattle.sf_core.specs.Machine.Whole.{numbers};
 ghost use Rattle.sf_part.specs.Guards.{IsAtRegion};
 ghost use Rattle.sf_part.specs.PartView.{part_of};
 ghost use Rattle.sf_region.specs.Calls.{IsNear, MaySplit};
 ghost use Rattle.sf_region.specs.Keys.{begun_of};
 ghost use Rattle.sf_region.specs.Checked.PutBack.{IsPutBack};
 ghost use Rattle.sf_region.specs.Checked.Spent.{spent_view};
-ghost use Rattle.sf_region.specs.Plays.{aimed, buries, child, dead, joined, leaves, looks, notes, parent, seen, tries};
+ghost use Rattle.sf_region.specs.Plays.{aimed, buries, child, dead, drains, joined, leaves, looks, notes, parent, seen, tries};
 ghost use Rattle.sf_region.specs.Rule.{Law, opening_view};
 ghost use Rattle.sf_region.specs.Waits.{program_in};
 
@@ -78,6 +79,7 @@ pub fn try_word<'p, N: Aim>(
     requires near { IsNear (program_in (begun_of shared.now.key)) seat.old.me.0 part.now }
     requires stands { IsAtRegion (part_of part.now).part r }
     requires outside { (part_of part.now).part.holds r ≡ false }
+    requires unit { numbers (part_of part.now).part.supply ≢ [] }
     ensures seat { (seat.new.table_id ≡ seat.old.table_id) × (seat.new.id ≡ seat.old.id) }
     ensures tries { tries part.now (step shared.now.table_id.slots (r.0 + 1) 0 1 none) seat.old.me
         result seat.new.me }
@@ -189,6 +191,28 @@ pub fn look_word<'p>(
 {
     part_laws();
     shared.load::<Looks>(seat, 0);
+}
+
+/// A look at what the tasks in the view have left.
+pub struct Drains;
+
+impl<'p> Play<Option<Content>, View<'p>> for Drains {
+    ghost then = { λ s m r n. drains m n };
+}
+
+/// Learns of a task that would go on without a unit, or that waits for two children that have ended
+/// without one, that events have used up what it was given.
+pub fn drain_word<'p>(
+    shared: &Shared<Option<Content>, View<'p>, Key<'p>, Ruled>,
+    seat: &mut Seat<Option<Content>, View<'p>>,
+)
+    requires table { seat.old.table_id ≡ shared.now.table_id }
+    requires wide { shared.now.table_id.words ≡ suc shared.now.table_id.slots }
+    requires live { seat.old.me.0.live ≡ true }
+    ensures { drains seat.old.me seat.new.me }
+{
+    part_laws();
+    shared.load::<Drains>(seat, 0);
 }
 
 /// A seat of its own for the first of the children whose parts are in a view, and the way back.

@@ -1,6 +1,6 @@
 //! A task, its own steps, and how a table begins and is closed with it.
 
-ghost use Rattle.std.specs.Prelude.{◌≡◌, ◌≢◌, ◌↔◌, [], IfOk, IsTrue, OnErr};
+ghost use Rattle.std.specs.Prelude.{◌≡◌, ◌≢◌, ◌↔◌, [], length, IfOk, IsTrue, OnErr};
 ghost use Rattle.sf_core.specs.Machine.Step.{Event};
 ghost use Rattle.sf_core.specs.Machine.Whole.{numbers};
 ghost use Rattle.sf_core.specs.Program.ProgramView.{program_of};
@@ -10,6 +10,7 @@ ghost use Rattle.sf_part.specs.Keeps.{IsWaiting};
 ghost use Rattle.sf_part.specs.PartView.{IsPartOf, part_of};
 ghost use Rattle.sf_part.specs.Steps.{Private};
 ghost use Rattle.sf_region.specs.Keys.{begun_with};
+ghost use Rattle.sf_region.specs.Meeting.{HasNoMisses};
 ghost use Rattle.sf_region.specs.Plays.{Finished};
 ghost use Rattle.sf_region.specs.Rule.{MayBegin, opening_view};
 ghost use Rattle.sf_region.specs.Waits.{first_of, program_in};
@@ -73,9 +74,10 @@ impl<'p> Task<'p> {
         Ok((regions, Task { part, seat }))
     }
 
-    /// The path of the task.
+    /// The path of the task. With it is told that its part is the program's.
     pub fn path(&self) -> TaskPath
-        ensures { result ≡ (part_of self.now.1).part.task }
+        ensures path { result ≡ (part_of self.now.1).part.task }
+        ensures of { IsPartOf (program_in self.now.0.1.begun) self.now.1 }
     {
         self.part.task()
     }
@@ -110,6 +112,8 @@ impl<'p> Task<'p> {
         ensures goes { GoesTo (program_of p.now.program) (part_of self.old.1)
             (part_of self.new.1) }
         ensures seat { self.new.0 ≡ self.old.0 }
+        ensures fresh { IfOk result
+            (λ answer. answer ≡ Local.Moved → HasNoMisses self.new.0.1 self.new.1) }
     {
         self.part.make_room()?;
         self.part.step_local(&p.program)
@@ -125,6 +129,7 @@ impl<'p> Task<'p> {
         requires ended { Answers (program_of p.now.program) (part_of self.1) Local.Done }
         ensures part { result.0 ≡ self.entry.1 }
         ensures finished { Finished self.entry.0.1.begun (part_of self.entry.1) result.1.items }
+        ensures each { length result.1.items ≡ length (program_of p.now.program).resources }
         ensures receipt { result.2 ≡ self.entry.0.1.begun }
     {
         let Task { part, seat } = self;

@@ -1,9 +1,11 @@
--- The laws of parts on which the table stands, together.
--- Ordinary: each as sf_part states it.
+-- The laws of parts, and of what tasks have used, on which the table stands, together.
+-- Ordinary: each as sf_part and sf_spend state it.
 use Rattle.sf_part.specs.Checked.Laws.{EntriesAreSteps, ExitsAreSteps, ForksAreSteps, JoinsAreSteps, PartsInAnyOrder, PrivateEventsAreSteps}
 use Rattle.sf_part.specs.Checked.LawsOfWhole.{ChildrenAreApart, ConditionsAreSeenAlike, ContentsAreApart, PartsHold, RunningEntriesAreAlone, RunningPartsRun, WaitingPartsWait}
+use Rattle.sf_spend.specs.Checked.Laws.{CountedListsAreNumbered, CountsAreUnique, CountsBeginAnew, CountsDivide, CountsStayBalanced, NumberedListsAreCounted, SpendingListsAreCounted}
 
--- PartLaws: what is known of parts and of the wholes that they belong to
+-- PartLaws: what is known of parts and of the wholes that they belong to, and of what tasks were
+-- given and have used in numbered lists of events
 pub record PartLaws : Type 0 where
   pub order : PartsInAnyOrder
   pub privates : PrivateEventsAreSteps
@@ -18,3 +20,10 @@ pub record PartLaws : Type 0 where
   pub seen : ConditionsAreSeenAlike
   pub contents : ContentsAreApart
   pub children : ChildrenAreApart
+  pub counted : NumberedListsAreCounted
+  pub numbered : CountedListsAreNumbered
+  pub spent : SpendingListsAreCounted
+  pub once : CountsAreUnique
+  pub divided : CountsDivide
+  pub balanced : CountsStayBalanced
+  pub anew : CountsBeginAnew

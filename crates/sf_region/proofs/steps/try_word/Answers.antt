@@ -11,7 +11,7 @@ compare_exchange-requires g c = (
   (let w = c.requires.wide in let i = c.requires.index in omega arith),
   tries-at c.part_laws.ensures _ _ _ c.args.seat.now.me c.args.part.now g.N.Aim.parts c.args.r _ (omega arith)
       c.requires.aim c.requires.index c.requires.live c.requires.stands c.requires.outside
-      c.requires.near,
+      c.requires.unit c.requires.near,
 )
 
 pub returns-clause-tries : goal.returns-clause-tries

@@ -1,6 +1,12 @@
 use Rattle.sf_region.proofs.Parted.{join-goes, join-joins, join-left, join-may, join-right, join-seated}
 use Rattle.sf_core.specs.Program.ProgramView.{program_of}
 use Rattle.sf_region.specs.Waits.{program_in}
+use Rattle.std.proofs.Common.{subst, sym}
+use Rattle.atomic_table.specs.Seated.{TableId}
+use Rattle.sf_part.specs.declared.part.Part.{Part}
+use Rattle.sf_region.proofs.Fresh.{fresh-joined}
+use Rattle.sf_region.specs.declared.views.View.{View}
+use Rattle.sf_region.specs.Meeting.{IsAtRest}
 use Rattle.sf_region.proofs.task.Task.join.Goals as goal
 
 pub join-requires-clause-left : goal.join-requires-clause-left
@@ -63,3 +69,11 @@ returns-in-Ok-clause-goes c = join-goes (program_of c.args.p.now.program)
     c.left.invariant c.right.invariant c.requires.rests c.requires.gone c.requires.left_ended
     c.requires.right_ended c.join.new.seat.1 c.join-2.new.self c.in-Ok.ensures.ok.0
     (c.in-Ok.ensures.ok.1 (program_of c.args.p.now.program)) c.joins_go_on.ensures
+
+pub returns-in-Ok-clause-fresh : goal.returns-in-Ok-clause-fresh
+returns-in-Ok-clause-fresh c =
+    let rest = subst (λ (z : (TableId × View) × Part). IsAtRest z.0.1 z.1) (sym c.self.view_is) c.requires.rests in
+    fresh-joined (program_of c.args.p.now.program) c.in-Ok.ensures.ok.0 c.self.inside.seat.1
+    c.join.new.seat.1 c.self.inside.part c.join-2.new.self c.left.inside.part
+    c.right.inside.part
+    (c.in-Ok.ensures.ok.1 (program_of c.args.p.now.program)) rest c.join.ensures.view

@@ -8,6 +8,7 @@ use Rattle.sf_region.specs.Calls.{MayLeave}
 use Rattle.sf_region.specs.Waits.{program_in}
 use Rattle.sf_region.proofs.Seating.{may-leave}
 use Rattle.sf_region.proofs.Trying.{placed}
+use Rattle.sf_region.proofs.Fresh.{fresh-left}
 use Rattle.sf_region.proofs.task.Task.leave_region.Goals as goal
 
 pub invariant_of-self : goal.invariant_of-self
@@ -74,3 +75,11 @@ returns-clause-goes c =
     c.self.invariant c.requires.program c.make_room.ensures.same (c.make_room.ensures.of p) in
     let e = c.in_ok-content.ensures.ok in
     leaves e.0 (content_of c.in_ok-content.content) (stays h.back) e.1
+
+pub returns-clause-fresh : goal.returns-clause-fresh
+returns-clause-fresh c =
+    let p = program_of c.args.p.now.program in
+    let e = c.in_ok-content.ensures.ok in
+    fresh-left c.self.inside.seat.1 c.self.inside.part c.self.invariant p e.0
+    c.in_ok-content.content c.leave.new.seat.1 c.give.new.self c.make_room.new.self
+    c.make_room.ensures.same e.1 c.leave.ensures.view

@@ -6,6 +6,7 @@ use Rattle.std.proofs.Common.{ap, ◌∙◌, subst}
 use Rattle.sf_core.specs.Program.Syntax.{Program}
 use Rattle.sf_region.specs.declared.views.View.{View}
 use Rattle.sf_region.proofs.Seating.{may-move, seated-of, seated-same, seated-after, goes-after}
+use Rattle.sf_region.proofs.Fresh.{fresh-step}
 use Rattle.sf_region.proofs.task.Task.step.Goals as goal
 
 pub invariant_of-self : goal.invariant_of-self
@@ -50,3 +51,9 @@ returns-clause-goes c =
     (goes-after p v a here c.self.invariant c.step_local.new.self
     (may-move p v a here c.self.invariant c.step_local.new.self c.make_room.new.self
     c.step_local.result c.make_room.ensures.same e.moved e.unchanged e.err))
+
+pub returns-clause-fresh : goal.returns-clause-fresh
+returns-clause-fresh c =
+    let p : Program = program_of c.args.p.now.program in
+    fresh-step c.self.inside.seat.1 c.self.inside.part c.self.invariant p c.step_local.new.self
+    c.make_room.new.self c.step_local.result c.make_room.ensures.same c.step_local.ensures.moved

@@ -19,7 +19,7 @@ try_enter-requires-clause-may c =
     (c.conditions_from_truncation.ensures p c.args.p.now.conditions) c.args.self v a c.args.r h
     c.requires.region c.requires.unit in
     may-try p v a h.here h.seated (program_in c.args.regions.now.1) c.args.r c.requires.begun
-    at.below at.stands at.outside
+    at.below at.stands at.outside at.unit
 
 pub invariant_of-result : goal.invariant_of-result
 invariant_of-result c =
