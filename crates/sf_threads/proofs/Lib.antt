@@ -1,0 +1,4 @@
+pub mod Crossed
+pub mod Moves
+pub mod Trying
+pub mod Parted
