@@ -1,0 +1,11 @@
+pub mod Goes
+pub mod Leading
+pub mod Counts
+pub mod Draining
+pub mod Beginning
+pub mod SettingUp
+pub mod Quiet
+pub mod Staying
+pub mod Meeting
+pub mod Units
+pub mod Whole
