@@ -1,12 +1,12 @@
 -- A replay has an answer, where the files of the state and of the schedule are there; and of a program that is proved it
 -- is never that something bad is found.
 -- Names: some-*, what is found at each step of the way; clean-*, that it is nothing bad.
-use Rattle.std.proofs.Common.{◌≡◌, ◌≢◌, ◌∙◌, ◌⊎◌, ℕ, Bool, List, Option, Some, None, ap, arith, inl, inr, refl, subst, sym}
+use Rattle.std.proofs.Common.{◌≡◌, ℕ, Bool, List, Option, Some, None, ap, arith, inl, inr, refl, subst}
 use Rattle.sf_base.specs.declared.ids.ProcId.{ProcId}
 use Rattle.sf_core.specs.Machine.Sound.{IsSound}
-use Rattle.sf_core.specs.Machine.Step.{Event, procedure_at}
+use Rattle.sf_core.specs.Machine.Step.{Event}
 use Rattle.sf_core.specs.Program.Formed.{IsFormed}
-use Rattle.sf_core.specs.Program.Syntax.{Procedure, Program}
+use Rattle.sf_core.specs.Program.Syntax.{Program}
 use Rattle.sf_elab.specs.Checked.Laws.{ElaboratedIsFormed}
 use Rattle.sf_foot.specs.declared.vars.Vars.{Vars}
 use Rattle.sf_foot.specs.Starting.{StartsWith}
@@ -22,19 +22,14 @@ use Rattle.sf_replay.specs.declared.schedule.Scheduled.{Scheduled}
 use Rattle.sf_replay.specs.declared.schedule.ScheduleFault.{ScheduleFault}
 use Rattle.sf_replay.specs.Replays.{Finds, FromStart, Stops}
 use Rattle.sf_replay.specs.ScheduleText.{GivesSchedule, events_from, events_of, lines_kept, schedule_refusal, skipped}
-use Rattle.sf_rules.specs.Proving.{Proves}
-use Rattle.sf_rules.specs.Setting.{IsSettingOf, Setting}
 use Rattle.sf_run.specs.Checked.Laws.{BeginningsAreStarts}
 use Rattle.sf_sound.specs.Proofs.{ProofsAreSound}
 use Rattle.sf_state.specs.Checked.Laws.{AreDetermined, EntryExists, StartExists}
 use Rattle.sf_state.specs.Entering.{IsEntry}
-use Rattle.sf_state.specs.Starts.{IsStartText}
-use Rattle.sf_sym.specs.declared.tag.Tag.{Tag}
 use Rattle.sf_cli.proofs.Accepted.{accepted-formed, accepted-program}
 use Rattle.sf_cli.proofs.ARun.{some-procedure}
 use Rattle.sf_cli.specs.Answer.{AcceptedBytes, FileAnswer, admitted, refused}
 use Rattle.sf_cli.specs.Checked.Laws.{AcceptedFilesAreReplayedSafely, AcceptedFilesAreSound, EachFileHasAnAnswer, EachFileIsDecided, EachReplayHasAnAnswer, ProvedProgramsAreReplayedSafely}
-use Rattle.sf_cli.specs.FileFault.{Admits}
 use Rattle.sf_cli.specs.FoundText.{found_status, found_text, no_event_text, schedule_refusal_text}
 use Rattle.sf_cli.specs.Refusals.{refusal_text}
 use Rattle.sf_cli.specs.Replayed.{BegunAnswer, EnteredAnswer, ReplayAnswer, ScheduleAnswer, admitted_replay, begun, is_entered, no_event, no_schedule, not_begun, not_entered, refused_replay, replayed}

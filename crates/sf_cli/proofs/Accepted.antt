@@ -21,7 +21,7 @@ use Rattle.sf_search.specs.Checked.Laws.{TakenTagsProve}
 use Rattle.sf_sound.specs.Proofs.{ProofsAreSound}
 use Rattle.sf_sym.specs.declared.tag.Tag.{Tag}
 use Rattle.sf_cli.proofs.DemoAnswers.{demo-sound, demo-status}
-use Rattle.sf_cli.specs.Answer.{Accepted, AcceptedBytes, FileAnswer, IsProved, IsSaid, OrderAnswer, RecheckAnswer, Reply, RunFileAnswer, VerdictAnswer, admitted, admitted_run, answer, by_demo, by_proof, by_run, by_search, entered, file_refused, no_entry, not_built, rechecked, refused, refused_run, unproved, unread}
+use Rattle.sf_cli.specs.Answer.{Accepted, AcceptedBytes, FileAnswer, IsProved, IsSaid, OrderAnswer, RecheckAnswer, Reply, RunFileAnswer, VerdictAnswer, admitted, admitted_run, answer, by_demo, by_proof, by_run, by_search, entered, file_refused, no_entry, rechecked, refused, refused_run, unproved, unread}
 use Rattle.sf_cli.specs.SoundFile.{AreProgram, AsksForProof, IsAccepting, NamesSound}
 use Rattle.sf_cli.specs.FileFault.{Admits}
 use Rattle.sf_cli.specs.Checked.Laws.{AcceptedFilesAreSound, AcceptedProofsAreSound, AcceptedRunsAreSound}
@@ -97,7 +97,6 @@ accepted-run_file told p entry state_name text steps waits status s (unproved a 
     never (inr (inl z)) = omega (arith, z, one)
     never (inr (inr z)) = omega (arith, z, one)
 accepted-run_file told p entry state_name text steps waits status s (no_entry e i x t five) = i
-accepted-run_file told p entry state_name text steps waits status s (not_built f i x n t three) = i
 accepted-run_file told p entry state_name text steps waits status s (entered f given i may k) = i.proved
 
 pub accepted-run : EachFileIsShallow → ElaboratedIsFormed → TakenTagsProve → ProofsAreSound → AcceptedRunsAreSound

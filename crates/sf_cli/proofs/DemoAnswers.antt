@@ -1,6 +1,6 @@
 -- The answer to `demo`: it is one, there is one, and an accepting one is that of a sound program.
 -- Names: demo-*.
-use Rattle.std.proofs.Common.{◌≡◌, ◌<◌, ◌≤◌, ◌∙◌, ℕ, List, Option, Some, ap, arith, inl, refl, subst, sym}
+use Rattle.std.proofs.Common.{◌≡◌, ◌≤◌, ◌∙◌, ℕ, List, Option, Some, ap, arith, inl, refl, subst, sym}
 use Rattle.sf_base.specs.declared.ids.ProcId.{ProcId}
 use Rattle.sf_core.specs.Program.Syntax.{Program}
 use Rattle.sf_gen.specs.Made.{made_text}
@@ -12,7 +12,7 @@ use Rattle.sf_search.specs.Ends.{FailsFor}
 use Rattle.sf_search.specs.Judge.{Cause, Judge, Verdict, fails, proof}
 use Rattle.sf_sym.specs.declared.tag.Tag.{Tag}
 use Rattle.sf_cli.proofs.OneAnswer.{VerdictLayers}
-use Rattle.sf_cli.specs.Answer.{AcceptedBytes, DemoAnswer, FileAnswer, IsAnswering, IsProved, ProgramAnswer, VerdictAnswer, admitted, cause_text, demonstrated, refused, unproved_demo}
+use Rattle.sf_cli.specs.Answer.{AcceptedBytes, DemoAnswer, FileAnswer, IsAnswering, IsProved, VerdictAnswer, admitted, cause_text, demonstrated, refused, unproved_demo}
 use Rattle.sf_cli.specs.Checked.Laws.{AcceptedFilesAreSound, EachDemoHasAnAnswer, EachDemoHasOneAnswer, EachFileHasAnAnswer, EachFileHasOneAnswer}
 use Rattle.sf_cli.specs.DemoText.{demo_text}
 use Rattle.sf_cli.proofs.Verdicts.{failed-answer, failed-status}

@@ -36,7 +36,7 @@ use Rattle.sf_cli.specs.declared.refusal.Refusal.{Refusal}
 use Rattle.sf_cli.specs.declared.refusal.Refusal.TheVariants.{At}
 use Rattle.sf_cli.specs.declared.refusal.RefusalKind.TheVariants.{Undetermined}
 use Rattle.sf_cli.specs.FileFault.{ReadFault, in_tokens, in_grammar, in_names, ProgramFault, in_variables, in_order, FileFault, unread, unfit, Admits}
-use Rattle.sf_cli.specs.Checked.Laws.{EachCommandHasOneAnswer, EachDemoHasOneAnswer, EachFileHasOneAnswer, EachFileIsDecided, EachFileIsOneProgram, EachProofHasOneAnswer, EachRunHasOneAnswer, EachRankingHasOneAnswer, EachReplayHasOneAnswer, EachWitnessHasOneAnswer}
+use Rattle.sf_cli.specs.Checked.Laws.{IsAlone, IsOfTasks, EachCommandHasOneAnswer, EachDemoHasOneAnswer, EachFileHasOneAnswer, EachFileIsDecided, EachFileIsOneProgram, EachProofHasOneAnswer, EachRunHasOneAnswer, EachRankingHasOneAnswer, EachReplayHasOneAnswer, EachWitnessHasOneAnswer}
 use Rattle.sf_cli.specs.Reads.{Reads}
 use Rattle.sf_cli.specs.Refusals.{of_tokens, of_grammar, of_names, of_variables, refusal_text}
 use Rattle.sf_cli.specs.Rechecked.{IsProof, ProofAnswer, ProofFault, accepted, in_tags, in_text, rejected}
@@ -237,30 +237,31 @@ recheck-once l one files bytes name text other status code (rechecked p a (given
 pub answer-command : EachFileIsDecided → EachFileHasOneAnswer → EachProofHasOneAnswer → EachRunHasOneAnswer
     → EachDemoHasOneAnswer → EachRankingHasOneAnswer → EachReplayHasOneAnswer
     → EachWitnessHasOneAnswer → EachCommandHasOneAnswer
-answer-command l one proofs runs demos rankings replays witnesses files words text other status code a b = go (order_of words) a b
+answer-command l one proofs runs demos rankings replays witnesses files words text other status code alone a b =
+    go (order_of words) alone a b
   where
-    go : (o : Option Order) → OrderAnswer (Some files) o text status → OrderAnswer (Some files) o other code
-        → (text ≡ other) × (status ≡ code)
-    go None x y = (x.0 ∙ sym y.0, x.1 ∙ sym y.1)
-    go (Some (verify file workers)) (bytes, may, x) (found, has, y) =
+    go : (o : Option Order) → (IsOfTasks status → IsAlone files o) → OrderAnswer (Some files) o text status
+        → OrderAnswer (Some files) o other code → (text ≡ other) × (status ≡ code)
+    go None n x y = (x.0 ∙ sym y.0, x.1 ∙ sym y.1)
+    go (Some (verify file workers)) n (bytes, may, x) (found, has, y) =
         let same : found ≡ bytes = some-once (files file) found bytes has may in
         one bytes text other status code x (subst (λ (z : Text). FileAnswer z other code) same y)
-    go (Some (recheck file name)) (bytes, may, x) (found, has, y) =
+    go (Some (recheck file name)) n (bytes, may, x) (found, has, y) =
         let same : found ≡ bytes = some-once (files file) found bytes has may in
         recheck-once l proofs files bytes name text other status code x
         (subst (λ (z : Text). RecheckAnswer (Some files) z name other code) same y)
-    go (Some (run file entry state steps waits)) (bytes, may, x) (found, has, y) =
+    go (Some (run file entry state steps waits)) n (bytes, may, x) (found, has, y) =
         let same : found ≡ bytes = some-once (files file) found bytes has may in
-        runs files bytes entry state text other steps waits status code x
+        runs files bytes entry state text other steps waits status code (λ of given there. n of bytes given may there) x
         (subst (λ (z : Text). RunAnswer (Some files) z entry state steps waits other code) same y)
-    go (Some (demo procedures)) x y = demos procedures text other status code x y
-    go (Some (ranking file)) (bytes, may, x) (found, has, y) =
+    go (Some (demo procedures)) n x y = demos procedures text other status code x y
+    go (Some (ranking file)) n (bytes, may, x) (found, has, y) =
         let same : found ≡ bytes = some-once (files file) found bytes has may in
         rankings bytes text other status code x (subst (λ (z : Text). RankingFileAnswer z other code) same y)
-    go (Some (replay file entry state schedule)) (bytes, may, x) (found, has, y) =
+    go (Some (replay file entry state schedule)) n (bytes, may, x) (found, has, y) =
         let same : found ≡ bytes = some-once (files file) found bytes has may in
         replays files bytes entry state schedule text other status code x
         (subst (λ (z : Text). ReplayAnswer (Some files) z entry state schedule other code) same y)
-    go (Some (witness file)) (bytes, may, x) (found, has, y) =
+    go (Some (witness file)) n (bytes, may, x) (found, has, y) =
         let same : found ≡ bytes = some-once (files file) found bytes has may in
         witnesses bytes text other status code x (subst (λ (z : Text). WitnessFileAnswer z other code) same y)

@@ -1,7 +1,7 @@
 -- A replay has at most one answer over the same files: its entry, its start, its events and what comes of them are each
 -- determined, and no two of its refusals meet.
 -- Names: replays-*.
-use Rattle.std.proofs.Common.{◌≡◌, ◌∙◌, ℕ, Bool, [], List, Option, Some, None, ap, refl, subst, sym}
+use Rattle.std.proofs.Common.{◌≡◌, ◌∙◌, ℕ, Bool, [], List, Some, ap, subst, sym}
 use Rattle.sf_base.proofs.Options.{some-none, some-once}
 use Rattle.sf_base.specs.declared.ids.ProcId.{ProcId}
 use Rattle.sf_core.specs.Machine.Config.{Config}
@@ -11,7 +11,6 @@ use Rattle.sf_foot.specs.declared.vars.Vars.{Vars}
 use Rattle.sf_heap.specs.Cells.{Cells}
 use Rattle.sf_io.specs.Shelf.{Files}
 use Rattle.sf_machine.specs.Beginning.{Begins}
-use Rattle.sf_machine.specs.declared.event.Stepped.{Stepped}
 use Rattle.sf_replay.specs.Checked.Laws.{EventsAreReplayedOnce}
 use Rattle.sf_replay.specs.declared.found.Found.{Found}
 use Rattle.sf_replay.specs.declared.found.ReplayFault.{ReplayFault}
@@ -23,12 +22,11 @@ use Rattle.sf_replay.specs.ScheduleText.{GivesSchedule, events_of, schedule_refu
 use Rattle.sf_run.specs.Checked.Laws.{BeginningsAreUnique}
 use Rattle.sf_state.specs.Checked.Laws.{AreDetermined, EntryIsUnique, SameVars, StartIsUnique}
 use Rattle.sf_state.specs.Starts.{IsStartFault, IsStartText}
-use Rattle.sf_state.specs.declared.fault.StartFault.{StartFault}
 use Rattle.sf_cli.proofs.OneRun.{run-begins}
 use Rattle.sf_cli.specs.Checked.Laws.{EachFileIsDecided, EachReplayHasOneAnswer}
 use Rattle.sf_cli.specs.FoundText.{found_status, found_text, no_event_text, schedule_refusal_text}
 use Rattle.sf_cli.specs.Refusals.{refusal_text}
-use Rattle.sf_cli.specs.Replayed.{BegunAnswer, EnteredAnswer, ReplayAnswer, ScheduleAnswer, ScheduleFileAnswer, StateFileAnswer, admitted_replay, begun, is_entered, no_event, no_schedule, not_begun, not_entered, refused_replay, replayed}
+use Rattle.sf_cli.specs.Replayed.{BegunAnswer, EnteredAnswer, ScheduleAnswer, ScheduleFileAnswer, admitted_replay, begun, is_entered, no_event, no_schedule, not_begun, not_entered, refused_replay, replayed}
 use Rattle.sf_cli.specs.StartRefusals.{start_refusal_text}
 use Rattle.sf_words.specs.Words.{Text}
 

@@ -1,7 +1,7 @@
 -- A run has at most one answer over the same files: its verdict, its entry, its start and what comes of that are each
 -- determined, and no two of its refusals meet.
 -- Names: run-*.
-use Rattle.std.proofs.Common.{◌≡◌, ◌∙◌, ◌==◌, ◌&&◌, ◌++◌, ℕ, zero, suc, Bool, true, [], ◌∷◌, List, Option, Some, None, ap, arith, codes, cond, map, refl, subst, sym}
+use Rattle.std.proofs.Common.{◌≡◌, ◌∙◌, ◌==◌, ◌&&◌, ◌++◌, ℕ, zero, suc, Bool, [], ◌∷◌, List, Option, Some, None, ap, arith, codes, cond, inl, inr, map, refl, subst, sym}
 use Rattle.std.specs.Prelude.{Vec, nat_lt, slice_get, slice_index_or}
 use Rattle.std.specs.declared.alloc.Global.{Global}
 use Rattle.sf_base.proofs.Options.{some-once}
@@ -24,17 +24,18 @@ use Rattle.sf_rules.specs.Setting.{Setting}
 use Rattle.sf_machine.specs.Beginning.{Begins}
 use Rattle.sf_run.specs.Checked.Laws.{BeginningsAreUnique, OutcomesAreUnique}
 use Rattle.sf_run.specs.Running.{ComesTo}
-use Rattle.sf_run.specs.Sequential.{IsSequential}
+use Rattle.sf_run.specs.Sequential.{IsSequentialStart}
 use Rattle.sf_search.specs.Judge.{Judge, Verdict, proof}
 use Rattle.sf_search.specs.Checked.Laws.{VerdictsAreUnique}
+use Rattle.sf_state.specs.Entering.{IsEntry}
 use Rattle.sf_state.specs.Checked.Laws.{AreDetermined, EntryIsUnique, SameVars, StartIsUnique}
 use Rattle.sf_state.specs.Starts.{IsStartFault, IsStartText}
 use Rattle.sf_state.specs.declared.fault.StartFault.{StartFault}
 use Rattle.sf_cli.proofs.EndTexts.{end-once}
 use Rattle.sf_cli.proofs.OneAnswer.{VerdictLayers, answer-program}
-use Rattle.sf_cli.specs.Answer.{IsProved, ProgramAnswer, RunFileAnswer, VerdictAnswer, admitted_run, entered, no_entry, not_built, refused_run, unproved}
-use Rattle.sf_cli.specs.Checked.Laws.{EachRunHasOneAnswer}
-use Rattle.sf_cli.specs.Ran.{OutcomeAnswer, StateAnswer, init_not_built, no_start, ran}
+use Rattle.sf_cli.specs.Answer.{IsProved, ProgramAnswer, RunFileAnswer, VerdictAnswer, admitted_run, entered, no_entry, refused_run, unproved}
+use Rattle.sf_cli.specs.Checked.Laws.{EachRunHasOneAnswer, IsOfTasks}
+use Rattle.sf_cli.specs.Ran.{BeginAnswer, MayCome, OutcomeAnswer, StateAnswer, ended, no_start, ran, spent_steps, spent_waits}
 use Rattle.sf_cli.specs.Refusals.{refusal_text}
 use Rattle.sf_cli.specs.StartRefusals.{start_refusal_text}
 use Rattle.sf_words.specs.Words.{Text}
@@ -131,67 +132,63 @@ run-apart l p f g h given vars heap parts unit fresh e d there at y x =
     (l.starts p f g given d there).apart vars heap parts unit fresh e
     (subst (λ (z : Procedure). IsStartText p f z given vars heap parts unit fresh) same y) x
 
--- starts of one text are both fresh or neither
-run-fresh : RunLayers → (p : Program) (f : ProcId) (g h : Procedure) (given : Text) (v w : Vars) (a b : Cells)
-    (ps qs : List (List ℕ)) (t u : ℕ) (m n : Bool) → AreDetermined p → procedure_at p f ≡ Some g
-    → procedure_at p f ≡ Some h → IsStartText p f g given v a ps t m → IsStartText p f h given w b qs u n → m ≡ n
-unfolding StartIsUnique
-run-fresh l p f g h given v w a b ps qs t u m n d there at x y =
-    let same : h ≡ g = some-once (procedure_at p f) h g at there in
-    (l.starts p f g given d there).fresh v w a b ps qs t u m n x
-    (subst (λ (z : Procedure). IsStartText p f z given w b qs u n) same y)
+-- what comes of tasks has such a status
+run-status : (p : Program) (g : Procedure) (start : Config) (base steps waits : ℕ) (text : Text) (status : ℕ)
+    → MayCome p g start base steps waits text status → IsOfTasks status
+run-status p g start base steps waits text status (ended events last n h is z) = inl z
+run-status p g start base steps waits text status (spent_steps path used s t six) = inr six
+run-status p g start base steps waits text status (spent_waits path r w t six) = inr six
+
+-- where no parallel call can be reached, one thing is said of a start
+run-begun : RunLayers → (p : Program) (f : ProcId) (g : Procedure) (m n : Bool) (v w : Vars) (h k : Cells)
+    (t u steps waits : ℕ) (text other : Text) (status code : ℕ) → SameVars v w → h ≡ k → t ≡ u → m ≡ n
+    → IsSequentialStart p f m → BeginAnswer p f g m v h t steps waits text status
+    → BeginAnswer p f g n w k u steps waits other code → (text ≡ other) × (status ≡ code)
+run-begun l p f g m n v w h k t u steps waits text other status code s c e same one a b =
+    let (out, comes, said) = a.alone one in
+    let (end, leads, told) = b.alone (subst (IsSequentialStart p f) same one) in
+    let outcome : end ≡ out = sym (run-comes l.beginnings l.outcomes p f m n v w h k t u steps out end s c e same
+    (record { start = a.start; begins = a.begins; comes = comes })
+    (record { start = b.start; begins = b.begins; comes = leads })) in
+    run-printed p g steps waits out text other status code said
+    (subst (λ (z : Outcome). OutcomeAnswer p g steps waits z other code) outcome told)
+
+-- no parallel call can be reached from a start that the text of a state gives
+abbrev pub StartsAlone : Program → ProcId → (given : Text) → Type 0
+StartsAlone p f given = (g : Procedure) (vars : Vars) (heap : Cells) (parts : List (List ℕ)) (unit : ℕ) (fresh : Bool)
+    → procedure_at p f ≡ Some g → IsStartText p f g given vars heap parts unit fresh → IsSequentialStart p f fresh
 
 -- the text of a state has one answer
 run-state : RunLayers → (p : Program) (f : ProcId) (given : Text) (steps waits : ℕ) (text other : Text)
-    (status code : ℕ) → AreDetermined p → StateAnswer p f given steps waits text status
+    (status code : ℕ) → AreDetermined p → (IsOfTasks status → StartsAlone p f given)
+    → StateAnswer p f given steps waits text status
     → StateAnswer p f given steps waits other code → (text ≡ other) × (status ≡ code)
 unfolding StartIsUnique
-run-state l p f given steps waits text other status code d (no_start g e there x t s) (no_start h q at y u v) =
+run-state l p f given steps waits text other status code d one (no_start g e there x t s) (no_start h q at y u v) =
     let same : h ≡ g = some-once (procedure_at p f) h g at there in
     let once = l.starts p f g given d there in (
       t ∙ ap start_refusal_text (once.faults e q x (subst (λ (z : Procedure). IsStartFault p z given q) same y)) ∙ sym u,
       s ∙ sym v,
     )
-run-state l p f given steps waits text other status code d (no_start g e there x t s)
-    (init_not_built h vars heap parts unit at y n u v) =
-    absurd (run-apart l p f g h given vars heap parts unit true e d there at y x)
-run-state l p f given steps waits text other status code d (no_start g e there x t s)
-    (ran h vars heap parts unit fresh out at y sequential comes k) =
+run-state l p f given steps waits text other status code d one (no_start g e there x t s)
+    (ran h vars heap parts unit fresh at y k) =
     absurd (run-apart l p f g h given vars heap parts unit fresh e d there at y x)
-run-state l p f given steps waits text other status code d (init_not_built g vars heap parts unit there x n t s)
-    (no_start h e at y u v) =
-    absurd (run-apart l p f h g given vars heap parts unit true e d at there x y)
-run-state l p f given steps waits text other status code d (init_not_built g vars heap parts unit there x n t s)
-    (init_not_built h others more rest first at y m u v) =
-    (t ∙ sym u, s ∙ sym v)
-run-state l p f given steps waits text other status code d (init_not_built g vars heap parts unit there x n t s)
-    (ran h others more rest first fresh end at y sequential leads m) =
-    let told : true ≡ fresh =
-    run-fresh l p f g h given vars others heap more parts rest unit first true fresh d there at x y in
-    absurd (n (sequential (sym told)))
-run-state l p f given steps waits text other status code d
-    (ran g vars heap parts unit fresh out there x sequential comes k) (no_start h e at y u v) =
+run-state l p f given steps waits text other status code d one
+    (ran g vars heap parts unit fresh there x k) (no_start h e at y u v) =
     absurd (run-apart l p f h g given vars heap parts unit fresh e d at there x y)
-run-state l p f given steps waits text other status code d
-    (ran g vars heap parts unit fresh out there x sequential comes k)
-    (init_not_built h others more rest first at y n u v) =
-    absurd (n (sequential
-    (run-fresh l p f g h given vars others heap more parts rest unit first fresh true d there at x y)))
-run-state l p f given steps waits text other status code d
-    (ran g vars heap parts unit fresh out there x sequential comes k)
-    (ran h others more rest first anew end at y also leads m) =
+run-state l p f given steps waits text other status code d one
+    (ran g vars heap parts unit fresh there x k) (ran h others more rest first anew at y m) =
     let same : h ≡ g = some-once (procedure_at p f) h g at there in
     let moved : IsStartText p f g given others more rest first anew =
     subst (λ (z : Procedure). IsStartText p f z given others more rest first anew) same y in
     let once = l.starts p f g given d there in
-    let outcome : end ≡ out = sym (run-comes l.beginnings l.outcomes p f fresh anew vars others heap more unit first
-    steps out end (once.variables vars others heap more parts rest unit first fresh anew x moved)
+    run-begun l p f g fresh anew vars others heap more unit first steps waits text other status code
+    (once.variables vars others heap more parts rest unit first fresh anew x moved)
     (once.cells vars others heap more parts rest unit first fresh anew x moved)
     (once.unit vars others heap more parts rest unit first fresh anew x moved)
-    (once.fresh vars others heap more parts rest unit first fresh anew x moved) comes leads) in
-    run-printed p g steps waits out text other status code k
-    (subst (λ (z : Outcome). OutcomeAnswer p g steps waits z other code) outcome
-    (subst (λ (z : Procedure). OutcomeAnswer p z steps waits end other code) same m))
+    (once.fresh vars others heap more parts rest unit first fresh anew x moved)
+    (one (run-status p g k.start unit steps waits text status k.may) g vars heap parts unit fresh there x) k
+    (subst (λ (z : Procedure). BeginAnswer p f z anew others more first steps waits other code) same m)
 
 -- a program that is proved has no other verdict
 run-proved : VerdictLayers → (p : Program) (text : Text) (status : ℕ) → status ≡ 1 → IsProved p
@@ -206,60 +203,55 @@ run-proved l p text status one i a =
 
 -- a run of a program with which nothing is wrong has one answer
 run-file : RunLayers → (files : Files) (p : Program) (entry state_name text other : Text) (steps waits status code : ℕ)
-    → AreDetermined p → RunFileAnswer (Some files) p entry state_name steps waits text status
+    → AreDetermined p
+    → (IsOfTasks status → (f : ProcId) (given : Text) → IsEntry p entry f → files state_name ≡ Some given
+    → StartsAlone p f given)
+    → RunFileAnswer (Some files) p entry state_name steps waits text status
     → RunFileAnswer (Some files) p entry state_name steps waits other code → (text ≡ other) × (status ≡ code)
 unfolding EntryIsUnique
-run-file l files p entry state_name text other steps waits status code d (unproved a s) (unproved b v) =
+run-file l files p entry state_name text other steps waits status code d one (unproved a s) (unproved b v) =
     answer-program l.verdicts p text other status code a b
-run-file l files p entry state_name text other steps waits status code d (unproved a s) (no_entry e i x u v) =
+run-file l files p entry state_name text other steps waits status code d one (unproved a s) (no_entry e i x u v) =
     absurd (run-proved l.verdicts p text status s i a)
-run-file l files p entry state_name text other steps waits status code d (unproved a s) (not_built f i x n u v) =
-    absurd (run-proved l.verdicts p text status s i a)
-run-file l files p entry state_name text other steps waits status code d (unproved a s) (entered f given i may k) =
+run-file l files p entry state_name text other steps waits status code d one (unproved a s) (entered f given i may k) =
     absurd (run-proved l.verdicts p text status s i.proved a)
-run-file l files p entry state_name text other steps waits status code d (no_entry e i x t s) (unproved b v) =
+run-file l files p entry state_name text other steps waits status code d one (no_entry e i x t s) (unproved b v) =
     absurd (run-proved l.verdicts p other code v i b)
-run-file l files p entry state_name text other steps waits status code d (no_entry e i x t s) (no_entry q j y u v) =
+run-file l files p entry state_name text other steps waits status code d one (no_entry e i x t s)
+    (no_entry q j y u v) =
     (t ∙ ap start_refusal_text ((l.entries p entry).faults e q x y) ∙ sym u, s ∙ sym v)
-run-file l files p entry state_name text other steps waits status code d (no_entry e i x t s) (not_built g j y n u v) =
-    absurd ((l.entries p entry).apart g e y x)
-run-file l files p entry state_name text other steps waits status code d (no_entry e i x t s) (entered g given j may k) =
-    absurd ((l.entries p entry).apart g e j.is_entry x)
-run-file l files p entry state_name text other steps waits status code d (not_built f i x n t s) (unproved b v) =
-    absurd (run-proved l.verdicts p other code v i b)
-run-file l files p entry state_name text other steps waits status code d (not_built f i x n t s) (no_entry e j y u v) =
-    absurd ((l.entries p entry).apart f e x y)
-run-file l files p entry state_name text other steps waits status code d (not_built f i x n t s)
-    (not_built g j y m u v) =
-    (t ∙ sym u, s ∙ sym v)
-run-file l files p entry state_name text other steps waits status code d (not_built f i x n t s)
+run-file l files p entry state_name text other steps waits status code d one (no_entry e i x t s)
     (entered g given j may k) =
-    absurd (n (subst (IsSequential p) ((l.entries p entry).entries g f j.is_entry x) j.sequential))
-run-file l files p entry state_name text other steps waits status code d (entered f given i may k) (unproved b v) =
+    absurd ((l.entries p entry).apart g e j.is_entry x)
+run-file l files p entry state_name text other steps waits status code d one (entered f given i may k)
+    (unproved b v) =
     absurd (run-proved l.verdicts p other code v i.proved b)
-run-file l files p entry state_name text other steps waits status code d (entered f given i may k)
+run-file l files p entry state_name text other steps waits status code d one (entered f given i may k)
     (no_entry e j y u v) =
     absurd ((l.entries p entry).apart f e i.is_entry y)
-run-file l files p entry state_name text other steps waits status code d (entered f given i may k)
-    (not_built g j y m u v) =
-    absurd (m (subst (IsSequential p) ((l.entries p entry).entries f g i.is_entry y) i.sequential))
-run-file l files p entry state_name text other steps waits status code d (entered f given i may k)
+run-file l files p entry state_name text other steps waits status code d one (entered f given i may k)
     (entered g found j has m) =
     let same : g ≡ f = (l.entries p entry).entries g f j.is_entry i.is_entry in
     let read : found ≡ given = some-once (files state_name) found given has may in
-    run-state l p f given steps waits text other status code d k
+    run-state l p f given steps waits text other status code d (λ of. one of f given i.is_entry may) k
     (subst (λ (z : ProcId). StateAnswer p z given steps waits other code) same
     (subst (λ (z : Text). StateAnswer p g z steps waits other code) read m))
 
 -- so has one of a file's program
 pub run-once : RunLayers → EachRunHasOneAnswer
-run-once l files bytes entry state_name text other steps waits status code (refused_run r f t s) (refused_run q g u v) =
+run-once l files bytes entry state_name text other steps waits status code one (refused_run r f t s)
+    (refused_run q g u v) =
     (t ∙ ap refusal_text ((l.verdicts.files bytes).causes r q f g) ∙ sym u, s ∙ sym v)
-run-once l files bytes entry state_name text other steps waits status code (refused_run r f t s) (admitted_run p a k) =
+run-once l files bytes entry state_name text other steps waits status code one (refused_run r f t s)
+    (admitted_run p a k) =
     absurd ((l.verdicts.files bytes).apart p r a f)
-run-once l files bytes entry state_name text other steps waits status code (admitted_run p a k) (refused_run r f t s) =
+run-once l files bytes entry state_name text other steps waits status code one (admitted_run p a k)
+    (refused_run r f t s) =
     absurd ((l.verdicts.files bytes).apart p r a f)
-run-once l files bytes entry state_name text other steps waits status code (admitted_run p a k) (admitted_run q b m) =
+run-once l files bytes entry state_name text other steps waits status code one (admitted_run p a k)
+    (admitted_run q b m) =
     let program : q ≡ p = (l.verdicts.files bytes).programs q p b a in
-    run-file l files p entry state_name text other steps waits status code a.determined k
+    run-file l files p entry state_name text other steps waits status code a.determined
+    (λ of f given i may g vars heap parts unit fresh there x.
+    one of given may p f g vars heap parts unit fresh a i there x) k
     (subst (λ (z : Program). RunFileAnswer (Some files) z entry state_name steps waits other code) program m)

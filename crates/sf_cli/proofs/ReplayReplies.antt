@@ -1,6 +1,6 @@
 -- From what the parts of a replay answer to what is said of it over the files of a shelf.
 -- Names: replay-*, what it says; long-*, texts that are too long; fetched-*, what was fetched.
-use Rattle.std.proofs.Common.{◌≡◌, ◌⊎◌, ◌∙◌, ◌<◌, ◌≤◌, ℕ, Bool, List, Option, Some, None, ap, arith, inl, inr, length, nat_lt, refl, subst, sym, true}
+use Rattle.std.proofs.Common.{◌≡◌, ◌⊎◌, ◌∙◌, ◌<◌, ◌≤◌, ℕ, Bool, List, Option, Some, None, ap, arith, inl, inr, length, nat_lt, subst, sym, true}
 use Rattle.std.proofs.lemmas.Bool.Decides.{nat_tests}
 use Rattle.std.specs.Prelude.{if◌then◌else◌}
 use Rattle.sf_base.proofs.Options.{some-none}
@@ -16,7 +16,6 @@ use Rattle.sf_replay.specs.declared.found.Found.TheVariants.{Clean, Absent, Race
 use Rattle.sf_replay.specs.declared.found.ReplayFault.TheVariants.{NotAnEvent, OutOfMemory}
 use Rattle.sf_replay.specs.declared.limits.TheConstants.{SCHEDULE_BYTES}
 use Rattle.sf_replay.specs.declared.schedule.Scheduled.{Scheduled}
-use Rattle.sf_replay.specs.declared.schedule.ScheduleFault.{ScheduleFault}
 use Rattle.sf_replay.specs.declared.schedule.ScheduleFault.TheVariants.{TooLong}
 use Rattle.sf_replay.specs.Replays.{FromStart, Stops}
 use Rattle.sf_replay.specs.ScheduleText.{events_of, lines_kept, refusal_from, schedule_refusal, skipped}

@@ -1,6 +1,6 @@
 -- From what the parts of a run answer to what is said of it over the files of a shelf.
 -- Names: entry-*, ran-*, fetched-*, reply-*.
-use Rattle.std.proofs.Common.{◌≡◌, ◌≢◌, ◌∙◌, ◌⊎◌, ◌<◌, ◌≤◌, ℕ, [], Bool, true, false, Option, Some, None, ap, arith, get_or, inl, inr, length, map, nat_lt, refl, subst, sym}
+use Rattle.std.proofs.Common.{◌≡◌, ◌≢◌, ◌∙◌, ◌⊎◌, ◌<◌, ◌≤◌, ℕ, [], Bool, true, false, Option, Some, None, ap, ap₂, arith, get_or, inl, inr, length, map, nat_lt, refl, subst, sym}
 use Rattle.std.proofs.lemmas.Bool.{ltb-true, ltb-false}
 use Rattle.std.proofs.lemmas.Bool.Decides.{nat_tests}
 use Rattle.std.proofs.lemmas.List.{length-map}
@@ -13,7 +13,8 @@ use Rattle.sf_base.proofs.Options.{some-holds, some-none}
 use Rattle.sf_base.specs.declared.ids.ProcId.{ProcId}
 use Rattle.sf_base.specs.declared.ids.ResId.{ResId}
 use Rattle.sf_base.specs.declared.limits.TheConstants.{FILE_BYTES, STATE_BYTES}
-use Rattle.sf_core.specs.Machine.Alone.{Outcome, finished, spent, waiting}
+use Rattle.sf_core.specs.Machine.Alone.{Alone, Outcome, finished, spent, waiting}
+use Rattle.sf_core.specs.Machine.Config.{Config, Path}
 use Rattle.sf_core.specs.Program.Formed.{IsFormed}
 use Rattle.sf_core.specs.Program.ProgramView.{program_of}
 use Rattle.sf_core.specs.Program.Syntax.{Procedure, Program, Resource}
@@ -27,10 +28,14 @@ use Rattle.sf_heap.specs.Cells.{Cells}
 use Rattle.sf_io.specs.Increased.{Increased}
 use Rattle.sf_io.specs.Shelf.{Files}
 use Rattle.sf_precise.specs.declared.arranged.Arranged.{Arranged}
-use Rattle.sf_run.specs.Running.{EndsWith, Stops}
+use Rattle.sf_machine.specs.Beginning.{Begins}
+use Rattle.sf_machine.specs.Ending.{Ends}
+use Rattle.sf_run.specs.Checked.Laws.{BeginningsAreUnique}
+use Rattle.sf_run.specs.Running.{ComesTo, EndsWith, IsFinish, IsStop, Stops}
+use Rattle.sf_run.specs.Sequential.{IsSequentialStart}
 use Rattle.sf_run.specs.declared.stop.Budget.{Budget}
-use Rattle.sf_run.specs.declared.stop.Stop.{Stop}
-use Rattle.sf_run.specs.declared.stop.Stop.TheVariants.{Steps, Waits, OutOfMemory}
+use Rattle.sf_threads.specs.declared.stop.Stop.{Stop}
+use Rattle.sf_threads.specs.declared.stop.Stop.TheVariants.{Steps, Waits, OutOfMemory}
 use Rattle.sf_state.specs.declared.fault.StartFault.{StartFault}
 use Rattle.sf_state.specs.declared.fault.StartFault.TheVariants as fault
 use Rattle.sf_state.specs.Names.{Format, format_of}
@@ -43,13 +48,8 @@ use Rattle.sf_cli.specs.Answer.{AreRun, Reaches, Reply, RunAnswer, admitted_run,
 use Rattle.sf_cli.specs.SoundFile.{MayHave}
 use Rattle.sf_cli.specs.declared.reply.Said.{Said}
 use Rattle.sf_cli.specs.Checked.Fetched.{IsUpTo, Fetched}
-use Rattle.sf_cli.specs.Checked.Printed.{BeginAnswer, IsOutcomeText, SaysFinish, stop_text}
-use Rattle.sf_lex.specs.Reading.{first_place}
-use Rattle.sf_run.specs.Sequential.{InitIsSequential}
-use Rattle.sf_cli.specs.Refusals.{refusal_text}
-use Rattle.sf_cli.specs.declared.refusal.Refusal.TheVariants.{At}
-use Rattle.sf_cli.specs.declared.refusal.RefusalKind.TheVariants.{NotBuilt}
-use Rattle.sf_cli.specs.Ran.{OutcomeAnswer, StateAnswer, init_not_built, no_start, ran, resource_name, spent_steps_text, spent_waits_text}
+use Rattle.sf_cli.specs.Checked.Printed.{IsBeginText, SaysFinish, stop_text}
+use Rattle.sf_cli.specs.Ran.{ComesAlone, IsFinishedText, MayCome, OutcomeAnswer, StateAnswer, ended, no_start, ran, resource_name, spent_steps, spent_steps_text, spent_waits, spent_waits_text}
 use Rattle.sf_words.specs.Words.{Text, run}
 
 -- ---- procedures
@@ -90,36 +90,69 @@ name-there p r of there =
 
 -- ---- outcomes
 
+-- what comes of one task alone comes of the one configuration in which the procedure begins
+begun-alone : BeginningsAreUnique → (p : Program) (f : ProcId) (g : Procedure) (fresh : Bool) (vars : Vars)
+    (heap : Cells) (unit steps waits : ℕ) (out : Outcome) (text : Text) (status : ℕ) (start : Config)
+    → Begins p f fresh vars heap start → ComesTo p f fresh vars heap unit steps out
+    → OutcomeAnswer p g steps waits out text status → ComesAlone p g start unit steps waits text status
+unfolding BeginningsAreUnique
+begun-alone law p f g fresh vars heap unit steps waits out text status start b comes said = (
+  out,
+  subst (λ (c : Config). Alone p c unit steps out) (law p f fresh vars heap comes.start start comes.begins b) comes.comes,
+  said,
+)
+
 -- what a run ends with, printed
-pub ran-finished : (p : Program) (f : ProcId) (fresh : Bool) (vars : Vars) (heap : Cells) (unit steps waits : ℕ)
-    (end : Finish) (text : Text) (status : ℕ) → IsFormed p → EndsWith p f fresh vars heap unit steps end
+pub ran-finished : BeginningsAreUnique → (p : Program) (f : ProcId) (fresh : Bool) (vars : Vars) (heap : Cells)
+    (unit steps waits : ℕ) (end : Finish) (text : Text) (status : ℕ) → IsFormed p
+    → IsFinish p f fresh vars heap unit steps end
+    → (IsSequentialStart p f fresh → EndsWith p f fresh vars heap unit steps end)
     → IfSome (slice_get p.procedures f.0) (λ g. SaysFinish p g end.vars end.heap text status)
-    → IsOutcomeText p f fresh vars heap unit steps waits text status
-ran-finished p f fresh vars heap unit steps waits end text status formed e said = λ g there.
+    → IsBeginText p f fresh vars heap unit steps waits text status
+ran-finished law p f fresh vars heap unit steps waits end text status formed h one said = λ g there.
     let s = some-holds (λ (h : Procedure). SaysFinish p h end.vars end.heap text status) (slice_get p.procedures f.0) g
-    there said in (
-      finished e.last,
-      e.comes,
-      (
-        record {
-          state = s.state;
-          ends = end-written p f g e.last end.vars end.heap s.state formed there e.ends s.ends;
-          is = s.is;
-        },
-        s.ok,
-      ),
-    )
+    there said in
+    let printed : (c : Config) → Ends p f c end.vars end.heap → IsFinishedText p g c text = λ c e. record {
+      state = s.state;
+      ends = end-written p f g c end.vars end.heap s.state formed there e s.ends;
+      is = s.is;
+    } in
+    record {
+      start = h.start;
+      begins = h.begins;
+      may = ended h.run.events h.last h.run.numbered h.run.ended (printed h.last h.ends) s.ok;
+      alone = λ lone. let e = one lone in
+          begun-alone law p f g fresh vars heap unit steps waits (finished e.last) text status h.start h.begins e.comes
+          (printed e.last e.ends, s.ok);
+    }
 
 -- why it stops, printed
-pub ran-stopped : (p : Program) (f : ProcId) (fresh : Bool) (vars : Vars) (heap : Cells) (unit : ℕ) (budget : Budget)
-    (stop : Stop) (text : Text) (status : ℕ) → Stops p f fresh vars heap unit budget stop → stop ≢ OutOfMemory
+pub ran-stopped : BeginningsAreUnique → (p : Program) (f : ProcId) (fresh : Bool) (vars : Vars) (heap : Cells)
+    (unit : ℕ) (budget : Budget) (stop : Stop) (text : Text) (status : ℕ)
+    → IsStop p f fresh vars heap unit budget stop
+    → (IsSequentialStart p f fresh → Stops p f fresh vars heap unit budget stop) → stop ≢ OutOfMemory
     → text ≡ stop_text p stop → status ≡ 6
-    → IsOutcomeText p f fresh vars heap unit budget.steps budget.waits text status
-ran-stopped p f fresh vars heap unit budget (Steps path used) text status (entry, all, comes) n t s =
-    λ g there. (spent, comes, (t ∙ ap spent_steps_text all, s))
-ran-stopped p f fresh vars heap unit budget (Waits path r tries) text status (entry, all, comes) n t s =
-    λ g there. (waiting r, comes, (t ∙ ap (spent_waits_text p r) all, s))
-ran-stopped p f fresh vars heap unit budget OutOfMemory text status h n t s = absurd (n refl)
+    → IsBeginText p f fresh vars heap unit budget.steps budget.waits text status
+ran-stopped law p f fresh vars heap unit budget (Steps path used) text status (start, begins, h) one n t s =
+    λ g there. record {
+      start = start;
+      begins = begins;
+      may = spent_steps path used h t s;
+      alone = λ lone. let (entry, all, comes) = one lone in
+          begun-alone law p f g fresh vars heap unit budget.steps budget.waits spent text status start begins comes
+          (t ∙ ap₂ spent_steps_text entry all, s);
+    }
+ran-stopped law p f fresh vars heap unit budget (Waits path r misses) text status
+    (start, begins, h, table, task, resource, count) one n t s =
+    λ g there. record {
+      start = start;
+      begins = begins;
+      may = spent_waits path r h (t ∙ ap (spent_waits_text p path r) count) s;
+      alone = λ lone. let (entry, all, comes) = one lone in
+          begun-alone law p f g fresh vars heap unit budget.steps budget.waits (waiting r) text status start begins comes
+          (t ∙ ap₂ (λ (z : Path) (m : ℕ). spent_waits_text p z r m) entry all, s);
+    }
+ran-stopped law p f fresh vars heap unit budget OutOfMemory text status h one n t s = absurd (n refl)
 
 -- the start that a text gives
 pub ran-started : (p : Program) (f : ProcId) (text : Text) (start : Start) (g : Procedure)
@@ -137,44 +170,27 @@ pub ran-refused : (p : Program) (f : ProcId) (text : Text) (e : StartFault) (g :
 ran-refused p f text e g there h n = entry-refused (IsStartFault p g text) e
     (some-holds (λ (g : Procedure). DecidesStart p f g text (Err e)) (slice_get p.procedures f.0) g there h).refused n
 
--- a run that begins fresh, and from which a parallel call can be reached
-begin-fresh : (p : Program) (f : ProcId) (g : Procedure) (given : Text) (start : Start) (steps waits : ℕ) (text : Text)
-    (status : ℕ) → slice_get p.procedures f.0 ≡ Some g → (InitIsSequential p → ⊥)
-    → text ≡ refusal_text (At NotBuilt first_place) → status ≡ 3 → start.fresh ≡ true
-    → IsStartText p f g given start.vars start.heap start.parts.items start.unit start.fresh
-    → StateAnswer p f given steps waits text status
-begin-fresh p f g given start steps waits text status there forks t s fresh starts =
-    init_not_built g start.vars start.heap start.parts.items start.unit there
-    (subst (λ b. IsStartText p f g given start.vars start.heap start.parts.items start.unit b) fresh starts) forks t s
-
--- what comes of the start of a text is the answer to it
+-- the answer to the start of a text is the answer to the text
 pub ran-answer : (p : Program) (f : ProcId) (g : Procedure) (given : Text) (start : Start) (steps waits : ℕ)
     (text : Text) (status : ℕ) → slice_get p.procedures f.0 ≡ Some g
     → IsStartText p f g given start.vars start.heap start.parts.items start.unit start.fresh
-    → BeginAnswer p f start.fresh start.vars start.heap start.unit steps waits text status
+    → IsBeginText p f start.fresh start.vars start.heap start.unit steps waits text status
     → StateAnswer p f given steps waits text status
-ran-answer p f g given start steps waits text status there starts (inl (sequential, outcome)) =
-    let (out, comes, said) = outcome g there in
-    ran g start.vars start.heap start.parts.items start.unit start.fresh out there starts sequential comes said
-ran-answer p f g given start steps waits text status there starts (inr (fresh, forks, t, s)) =
-    begin-fresh p f g given start steps waits text status there forks t s fresh starts
+ran-answer p f g given start steps waits text status there starts k =
+    ran g start.vars start.heap start.parts.items start.unit start.fresh there starts (k g there)
 
 -- its statuses
-ran-outcome_status : (p : Program) (g : Procedure) (steps waits : ℕ) (out : Outcome) (text : Text) (status : ℕ)
-    → OutcomeAnswer p g steps waits out text status → status < 7
-ran-outcome_status p g steps waits (finished c) text status a =
-    let is = a.1 in omega (arith, is)
-ran-outcome_status p g steps waits spent text status a =
-    let is = a.1 in omega (arith, is)
-ran-outcome_status p g steps waits (waiting r) text status a =
-    let is = a.1 in omega (arith, is)
+ran-come_status : (p : Program) (g : Procedure) (start : Config) (base steps waits : ℕ) (text : Text) (status : ℕ)
+    → MayCome p g start base steps waits text status → status < 7
+ran-come_status p g start base steps waits text status (ended events last numbered h is z) = omega (arith, z)
+ran-come_status p g start base steps waits text status (spent_steps path used h t six) = omega (arith, six)
+ran-come_status p g start base steps waits text status (spent_waits path r h t six) = omega (arith, six)
 
 pub ran-status : (p : Program) (f : ProcId) (given : Text) (steps waits : ℕ) (text : Text) (status : ℕ)
     → StateAnswer p f given steps waits text status → status < 7
 ran-status p f given steps waits text status (no_start g e there x t s) = omega (arith, s)
-ran-status p f given steps waits text status (init_not_built g vars heap parts unit there x forks t s) = omega (arith, s)
-ran-status p f given steps waits text status (ran g vars heap parts unit fresh out there x sequential comes a) =
-    ran-outcome_status p g steps waits out text status a
+ran-status p f given steps waits text status (ran g vars heap parts unit fresh there x a) =
+    ran-come_status p g a.start unit steps waits text status a.may
 
 -- ---- what is fetched of a state
 
@@ -202,10 +218,7 @@ fetched-state p f out given steps waits text status (inr m) (no_start g e there 
 fetched-state p f out given steps waits text status (inr m) (no_start g e there (left_over location is n) t s) =
     absurd (fetched-none (text_refusal (format_of p g) out) fault.TooLong
     (fetched-long (format_of p g) out m.0) n.state.accepted)
-fetched-state p f out given steps waits text status (inr m) (init_not_built g vars heap parts unit there x forks t s) =
-    absurd (fetched-none (text_refusal (format_of p g) out) fault.TooLong
-    (fetched-long (format_of p g) out m.0) x.state.accepted)
-fetched-state p f out given steps waits text status (inr m) (ran g vars heap parts unit fresh last there x n comes a) =
+fetched-state p f out given steps waits text status (inr m) (ran g vars heap parts unit fresh there x a) =
     absurd (fetched-none (text_refusal (format_of p g) out) fault.TooLong
     (fetched-long (format_of p g) out m.0) x.state.accepted)
 

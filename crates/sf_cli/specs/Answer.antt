@@ -12,10 +12,8 @@ use Rattle.sf_heap.specs.Cells.{Cells}
 use Rattle.sf_io.specs.Increased.{Increased}
 use Rattle.sf_io.specs.Shelf.{Files}
 use Rattle.sf_io.specs.Sink.{WrotePrefix}
-use Rattle.sf_lex.specs.Reading.{first_place}
 use Rattle.sf_machine.specs.Beginning.{Begins}
 use Rattle.sf_rules.specs.Setting.{IsSettingOf, Setting}
-use Rattle.sf_run.specs.Sequential.{IsSequential}
 use Rattle.sf_state.specs.Entering.{IsEntry, IsEntryFault}
 use Rattle.sf_state.specs.Starts.{IsStartText}
 use Rattle.sf_state.specs.declared.fault.StartFault.{StartFault}
@@ -28,8 +26,6 @@ use Rattle.sf_proof.specs.ProofText.{proof_text}
 use Rattle.sf_core.specs.Machine.Sound.{IsSound}
 use Rattle.sf_sym.specs.declared.tag.Tag.{Tag}
 use Rattle.sf_cli.specs.declared.refusal.Refusal.{Refusal}
-use Rattle.sf_cli.specs.declared.refusal.Refusal.TheVariants.{At}
-use Rattle.sf_cli.specs.declared.refusal.RefusalKind.TheVariants.{NotBuilt}
 use Rattle.sf_cli.specs.SoundFile.{MayHave}
 use Rattle.sf_cli.specs.DemoText.{demo_text}
 use Rattle.sf_gen.specs.Made.{made_text}
@@ -87,12 +83,11 @@ pub record IsProved (p : Program) : Type 0 where
   pub tags : List Tag
   pub judged : Judge setting (proof tags)
 
--- a procedure of that name is run: the program is proved, the procedure holds no resource and doesn't
--- set them up, and no parallel call can be reached from it
+-- a procedure of that name is run: the program is proved, and the procedure holds no resource and
+-- doesn't set them up
 pub record IsRun (p : Program) (entry : Text) (f : ProcId) : Type 0 where
   pub proved : IsProved p
   pub is_entry : IsEntry p entry f
-  pub sequential : IsSequential p f
 
 -- some procedure is
 abbrev pub HasRun : Program → (entry : Text) → Type 0
@@ -100,14 +95,11 @@ HasRun p entry = (f : ProcId) × IsRun p entry f
 
 -- the answer to a run from the text of a state that has this name, for a program with which nothing
 -- is wrong: the answer to the program where its verdict is no proof; else, that there is no such
--- entry; else, that a parallel call can be reached from it; else the answer to that text
+-- entry; else the answer to that text
 pub data RunFileAnswer (told : Option Files) (p : Program) (entry state_name : Text) (steps waits : ℕ) (text : Text)
     (status : ℕ) : Type 0 where
   unproved : ProgramAnswer p text status → status ≡ 1 → RunFileAnswer told p entry state_name steps waits text status
   no_entry : (e : StartFault) → IsProved p → IsEntryFault p entry e → text ≡ start_refusal_text e → status ≡ 5
-      → RunFileAnswer told p entry state_name steps waits text status
-  not_built : (f : ProcId) → IsProved p → IsEntry p entry f → (IsSequential p f → ⊥)
-      → text ≡ refusal_text (At NotBuilt first_place) → status ≡ 3
       → RunFileAnswer told p entry state_name steps waits text status
   entered : (f : ProcId) (given : Text) → IsRun p entry f → MayHave told state_name given
       → StateAnswer p f given steps waits text status → RunFileAnswer told p entry state_name steps waits text status

@@ -1,13 +1,10 @@
 -- FoundText: what is said of what is found of a schedule, and of why nothing is.
 -- This project's own lines; a race is named as data races are, by two tasks and the thing that they share.
 use Rattle.std.specs.Prelude.{ℕ, Option, Some, None, List, [], ◌++◌, codes, decimal, slice_get}
-use Rattle.std.specs.List.{flat_map}
 use Rattle.sf_base.specs.declared.ids.ResId.{ResId}
 use Rattle.sf_base.specs.declared.ids.Slot.{Slot}
 use Rattle.sf_base.specs.declared.ids.Thing.{Thing}
 use Rattle.sf_base.specs.declared.ids.Thing.TheVariants.{Shared, Own, At}
-use Rattle.sf_base.specs.declared.path.Turn.{Turn}
-use Rattle.sf_base.specs.declared.path.Turn.TheVariants.{Left as left, Right as right}
 use Rattle.sf_base.specs.declared.value.Value.{Value}
 use Rattle.sf_core.specs.Machine.Config.{Path}
 use Rattle.sf_core.specs.Program.Syntax.{Program, Resource}
@@ -22,16 +19,8 @@ use Rattle.sf_state.specs.Names.{qualified}
 use Rattle.sf_state.specs.Refused.{cell_name, name_at}
 use Rattle.sf_state.specs.StateText.{value_text}
 use Rattle.sf_cli.specs.Ran.{resource_name}
+use Rattle.sf_cli.specs.TaskText.{task_text}
 use Rattle.sf_words.specs.Words.{Text}
-
--- a turn: a dot, and which of the two calls of a parallel call the task runs
-abbrev pub turn_text : Turn → Text
-turn_text left = codes ".1"
-turn_text right = codes ".2"
-
--- a task, by the turns on the way to it from the entry's task, which is 0
-abbrev pub task_text : Path → Text
-task_text path = codes "0" ++ flat_map turn_text path
 
 -- the names of the variables of a resource, none where it isn't there
 abbrev pub variables_of : Option Resource → List Text

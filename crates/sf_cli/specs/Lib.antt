@@ -7,6 +7,7 @@ pub mod FileFault
 pub mod Rechecked
 pub mod StartRefusals
 pub mod EndText
+pub mod TaskText
 pub mod Ran
 pub mod Ranked
 pub mod FoundText

@@ -1,51 +1,21 @@
 //! What is said of what is found of a schedule, and of why nothing is.
 
 ghost use Rattle.std.specs.Prelude.{◌≡◌, ◌≢◌, ◌++◌, IfOk, OnOk, slice_get};
-ghost use Rattle.std.specs.List.{flat_map};
 ghost use Rattle.sf_core.specs.Program.ProgramView.{program_of};
 ghost use Rattle.sf_replay.specs.declared.schedule.ScheduleFault.TheVariants.{OutOfMemory};
 ghost use Rattle.sf_state.specs.Refused.{cell_name, name_at};
 ghost use Rattle.sf_state.specs.StateText.{value_text};
-ghost use Rattle.sf_cli.specs.FoundText.{absent_text, found_status, found_text, line_at, no_event_text, schedule_refusal_text, slot_text, task_text, thing_text, turn_text, variables_of, why_text};
+ghost use Rattle.sf_cli.specs.FoundText.{absent_text, found_status, found_text, line_at, no_event_text, schedule_refusal_text, slot_text, thing_text, variables_of, why_text};
 
 use crate::outcome::resource_name;
 use crate::reply::Said;
-use crate::writing::{put, put_number};
+use crate::writing::{put, put_number, put_task};
 use itoa::Buffer;
-use sf_base::{Name, ResId, Slot, TaskPath, Thing, Turn, Value};
+use sf_base::{Name, ResId, Slot, TaskPath, Thing, Value};
 use sf_core::Program;
 use sf_machine::Stepped;
 use sf_replay::{Found, Schedule, ScheduleFault};
 use std::alloc::{AllocError, Global};
-
-/// Appends a turn.
-fn put_turn(text: &mut Vec<u8>, turn: Turn) -> Result<(), AllocError>
-    ensures { OnOk result (text.new.items ≡ text.old.items ++ turn_text turn) }
-{
-    match turn {
-        Turn::Left => put(text, ".1"),
-        Turn::Right => put(text, ".2"),
-    }
-}
-
-/// Appends turns.
-fn put_turns(text: &mut Vec<u8>, turns: &[Turn]) -> Result<(), AllocError>
-    ensures { OnOk result (text.new.items ≡ text.old.items ++ flat_map turn_text turns.now) }
-{
-    for turn in turns {
-        put_turn(text, *turn)?;
-    }
-    Ok(())
-}
-
-/// Appends a text and a task.
-fn put_task(text: &mut Vec<u8>, more: &str, path: TaskPath) -> Result<(), AllocError>
-    ensures { OnOk result (text.new.items ≡ text.old.items ++ more.now ++ task_text path) }
-{
-    put(text, more)?;
-    put(text, "0")?;
-    put_turns(text, path.turns())
-}
 
 /// Appends the name of the cell at a location.
 fn put_cell(text: &mut Vec<u8>, location: u64) -> Result<(), AllocError>

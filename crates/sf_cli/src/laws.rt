@@ -14,8 +14,8 @@ use sf_replay::laws::{events_are_replayed_once, sound_runs_are_clean, starts_are
 use sf_rules::laws::{setting_exists, setting_is_unique};
 use sf_run::{
     bases_are_free, beginnings_are_starts, beginnings_are_unique, ends_are_numbered,
-    init_sequential_is_decided, outcomes_are_unique, sequential_is_decided,
-    starts_have_one_outcome, units_stay_free,
+    outcomes_are_unique, spent_runs_have_used_all, starts_have_one_outcome, units_stay_free,
+    waiting_runs_try_in_vain,
 };
 use sf_search::{programs_have_verdicts, taken_tags_prove, verdicts_are_unique};
 use sf_sound::proofs_are_sound;
@@ -89,7 +89,8 @@ pub fn each_proof_has_an_answer()
     proves_or_refused();
 }
 
-/// A run of a file's program has at most one answer over the same files.
+/// A run of a file's program has at most one answer over the same files, where one is not of its
+/// tasks, or no parallel call can be reached.
 pub fn each_run_has_one_answer()
     ensures { EachRunHasOneAnswer }
 {
@@ -102,7 +103,8 @@ pub fn each_run_has_one_answer()
     outcomes_are_unique();
 }
 
-/// A run of a file's program has an answer, where the state's file is there.
+/// A run of a file's program has an answer, where the state's file is there and no parallel call
+/// can be reached.
 pub fn each_run_has_an_answer()
     ensures { EachRunHasAnAnswer }
 {
@@ -112,11 +114,13 @@ pub fn each_run_has_an_answer()
     taken_tags_prove();
     proofs_are_sound();
     entry_exists();
-    sequential_is_decided();
-    init_sequential_is_decided();
     start_exists();
     starts_have_one_outcome();
     beginnings_are_starts();
+    beginnings_are_unique();
+    ends_are_numbered();
+    spent_runs_have_used_all();
+    waiting_runs_try_in_vain();
     bases_are_free();
     units_stay_free();
 }
@@ -225,7 +229,8 @@ pub fn accepted_files_are_replayed_safely()
     accepted_files_are_sound();
 }
 
-/// Words have an answer over files, where the files that they name are there.
+/// Words have an answer over files, where the files that they name are there, but for runs in which
+/// a parallel call can be reached.
 #[tactic(auto, using(crate::proofs::AnswerLaws::each_command_has_an_answer))]
 pub fn each_command_has_an_answer()
     ensures { EachCommandHasAnAnswer }
@@ -239,7 +244,7 @@ pub fn each_command_has_an_answer()
     each_witness_has_an_answer();
 }
 
-/// Words have at most one answer over the same files.
+/// Words have at most one answer over the same files, but for what comes of such runs.
 #[tactic(auto, using(crate::proofs::AnswerLaws::each_command_has_one_answer))]
 pub fn each_command_has_one_answer()
     ensures { EachCommandHasOneAnswer }
@@ -287,7 +292,4 @@ pub fn accepted_runs_are_sound()
 /// What is answered to a run with status 0 is the text of an end of it.
 pub fn finished_runs_have_ended()
     ensures { FinishedRunsHaveEnded }
-{
-    beginnings_are_starts();
-    ends_are_numbered();
-}
+{}

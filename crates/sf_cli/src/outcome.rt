@@ -4,11 +4,11 @@ ghost use Rattle.std.specs.Prelude.{◌≡◌, ◌≢◌, ◌<◌, ◌++◌, IfO
 ghost use Rattle.sf_core.specs.Program.ProgramView.{program_of};
 ghost use Rattle.sf_cli.specs.Checked.Printed.{SaysFinish, stop_text};
 ghost use Rattle.sf_cli.specs.Ran.{resource_name, spent_steps_text, spent_waits_text};
-ghost use Rattle.sf_run.specs.declared.stop.Stop.TheVariants.{OutOfMemory};
+ghost use Rattle.sf_threads.specs.declared.stop.Stop.TheVariants.{OutOfMemory};
 
 use crate::reply::Said;
-use crate::writing::{put, put_number};
-use sf_base::{ProcId, ResId};
+use crate::writing::{put, put_number, put_task};
+use sf_base::{ProcId, ResId, TaskPath};
 use sf_core::Program;
 use sf_foot::Finish;
 use sf_precise::Arranged;
@@ -36,12 +36,13 @@ pub fn say_finish(
     Ok(Said { text, status: 0 })
 }
 
-/// That the entry's task has used so many units. An `Err` says that memory ran out.
-fn spent_steps_text(alloc: Global, used: u64) -> Result<Vec<u8>, AllocError>
-    ensures { IfOk result (λ text. text.items ≡ spent_steps_text used) }
+/// That a task has used so many units. An `Err` says that memory ran out.
+fn spent_steps_text(alloc: Global, path: TaskPath, used: u64) -> Result<Vec<u8>, AllocError>
+    ensures { IfOk result (λ text. text.items ≡ spent_steps_text path used) }
 {
     let mut text = Vec::new(alloc);
-    put_number(&mut text, "spent steps: task 0 used ", used)?;
+    put_task(&mut text, "spent steps: task ", path)?;
+    put_number(&mut text, " used ", used)?;
     put(&mut text, "\n")?;
     Ok(text)
 }
@@ -56,13 +57,21 @@ pub fn resource_name(p: &Program, r: ResId) -> &[u8]
     }
 }
 
-/// That the entry's task has tried a region of that resource so often in vain. An `Err` says that
-/// memory ran out.
-fn spent_waits_text(alloc: Global, p: &Program, r: ResId, tries: u32) -> Result<Vec<u8>, AllocError>
-    ensures { IfOk result (λ text. text.items ≡ spent_waits_text (program_of p.now) r tries) }
+/// That a task has tried a region of that resource so often in vain. An `Err` says that memory ran
+/// out.
+fn spent_waits_text(
+    alloc: Global,
+    p: &Program,
+    path: TaskPath,
+    r: ResId,
+    tries: u32,
+) -> Result<Vec<u8>, AllocError>
+    ensures { IfOk result (λ text. text.items
+        ≡ spent_waits_text (program_of p.now) path r tries) }
 {
     let mut text = Vec::new(alloc);
-    put(&mut text, "spent waits: task 0 resource ")?;
+    put_task(&mut text, "spent waits: task ", path)?;
+    put(&mut text, " resource ")?;
     text.extend_from_slice(resource_name(p, r))?;
     put_number(&mut text, " tries ", u64::from(tries))?;
     put(&mut text, "\n")?;
@@ -71,14 +80,14 @@ fn spent_waits_text(alloc: Global, p: &Program, r: ResId, tries: u32) -> Result<
 
 /// Why a run stops before its end. An `Err` says that memory ran out, which is also the answer
 /// where it stopped for that.
-pub fn say_stop(alloc: Global, p: &Program, stop: &Stop) -> Result<Said, AllocError>
+pub fn say_stop(alloc: Global, p: &Program, stop: &Stop<'_>) -> Result<Said, AllocError>
     ensures said { IfOk result (λ said. (said.text.items ≡ stop_text (program_of p.now) stop.now)
         × (said.status ≡ 6)) }
     ensures cause { IfOk result (λ said. stop.now ≢ OutOfMemory) }
 {
     let text = match stop {
-        Stop::Steps(_, used) => spent_steps_text(alloc, *used)?,
-        Stop::Waits(_, r, tries) => spent_waits_text(alloc, p, *r, *tries)?,
+        Stop::Steps(path, used) => spent_steps_text(alloc, *path, *used)?,
+        Stop::Waits(path, r, misses) => spent_waits_text(alloc, p, *path, *r, misses.count())?,
         Stop::OutOfMemory => return Err(AllocError),
     };
     Ok(Said { text, status: 6 })

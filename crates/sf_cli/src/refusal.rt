@@ -47,8 +47,6 @@ pub enum RefusalKind {
     MissingField,
     /// More than a limit.
     TooMany,
-    /// A form of which proofs can't be looked for yet.
-    NotBuilt,
     /// A procedure named `init` with a parameter, or with a conjunct in its pre or post.
     InitShape,
     /// A call of the procedure named `init`.
@@ -216,7 +214,6 @@ fn number_and_word(kind: RefusalKind) -> (u64, &'static str)
         RefusalKind::ForeignVariable => (24, "ForeignVariable"),
         RefusalKind::MissingField => (25, "MissingField"),
         RefusalKind::TooMany => (26, "TooMany"),
-        RefusalKind::NotBuilt => (27, "NotBuilt"),
         RefusalKind::InitShape => (28, "InitShape"),
         RefusalKind::InitCalled => (29, "InitCalled"),
         RefusalKind::NotHeld => (30, "NotHeld"),

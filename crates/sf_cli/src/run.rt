@@ -1,7 +1,7 @@
 //! What the command says to `run`, in the order of its work: the verdict on the program, the entry,
-//! whether one task runs it, the text of the state, and what comes of that start.
+//! the text of the state, and what comes of that start.
 
-ghost use Rattle.std.specs.Prelude.{◌≡◌, ◌≢◌, ◌<◌, ◌≤◌, true, false, Some, IfOk, length};
+ghost use Rattle.std.specs.Prelude.{◌≡◌, ◌≢◌, ◌<◌, ◌≤◌, false, Some, IfOk, length};
 ghost use Rattle.sf_base.specs.declared.limits.TheConstants.{STEPS, WAITS};
 ghost use Rattle.sf_check.specs.Accepted.{arranged_in};
 ghost use Rattle.sf_core.specs.Program.Init.{sets_up};
@@ -10,29 +10,26 @@ ghost use Rattle.sf_foot.specs.Starting.{StartsWith};
 ghost use Rattle.sf_io.specs.Increased.{Increased};
 ghost use Rattle.sf_cli.specs.Answer.{AreRun, HasRun, IsProved, Reaches, Reply, RunAnswer, RunFileAnswer, read_fault_text};
 ghost use Rattle.sf_cli.specs.SoundFile.{MayHave};
-ghost use Rattle.sf_cli.specs.Checked.Printed.{BeginAnswer, IsOutcomeText};
+ghost use Rattle.sf_cli.specs.Checked.Printed.{IsBeginText};
 ghost use Rattle.sf_cli.specs.Ran.{StateAnswer};
 ghost use Rattle.sf_cli.specs.StartRefusals.{start_refusal_text};
 ghost use Rattle.sf_run.specs.Running.{program_in};
-ghost use Rattle.sf_run.specs.Sequential.{InitIsSequential, IsSequential, IsSequentialStart};
-ghost use Rattle.sf_state.specs.Entering.{HoldsNone, IsEntry};
+ghost use Rattle.sf_state.specs.Entering.{HoldsNone};
 ghost use Rattle.sf_state.specs.declared.fault.StartFault.TheVariants.{OutOfMemory};
 ghost use Rattle.sf_words.specs.Words.{Text, run};
 
 use crate::outcome::{say_finish, say_stop};
 use crate::reading::admit;
-use crate::refusal::{FIRST_PLACE, Refusal, RefusalKind};
 use crate::reply::{Said, fetch_up_to, say_failure, say_of, say_refusal};
 use crate::start_refusal::start_refusal_text;
 use sf_base::ProcId;
 use sf_base::limits::{FILE_BYTES, STATE_BYTES};
 use sf_check::Proof;
-use sf_core::Program;
 use sf_foot::Start;
 use sf_io::{FetchFault, Gate, Shelf};
 use sf_precise::Arranged;
 use sf_rules::laws::arranged_has_setting;
-use sf_run::{Budget, is_init_sequential, is_sequential, run};
+use sf_run::{Budget, beginnings_are_unique, run};
 use sf_search::VerifyFault;
 use sf_state::{StartFault, entry, read};
 use sf_verify::verify;
@@ -51,8 +48,7 @@ pub struct RunWords<'a> {
     pub budget: Budget,
 }
 
-/// What comes of a start of procedure `f`, from which no parallel call can be reached, nor, where the
-/// start is fresh, from `init`.
+/// The answer to a start of procedure `f`.
 fn answer_to_start<R: Threads + Sync, G: Gate>(
     rt: &R,
     alloc: Global,
@@ -65,15 +61,15 @@ fn answer_to_start<R: Threads + Sync, G: Gate>(
     requires there { f.0 < length (arranged_in proof.now).program.procedures.items }
     requires starts { StartsWith (program_in proof.now) f start.fresh start.vars start.heap
         start.parts.items }
-    requires sequential { IsSequentialStart (program_in proof.now) f start.fresh }
     requires steps { (1 ≤ budget.steps) × (budget.steps ≤ STEPS) }
     requires waits { (1 ≤ budget.waits) × (budget.waits ≤ WAITS) }
-    ensures { IfOk result (λ said. IsOutcomeText (program_in proof.now) f start.fresh start.vars
+    ensures { IfOk result (λ said. IsBeginText (program_in proof.now) f start.fresh start.vars
         start.heap start.unit budget.steps budget.waits said.text.items said.status) }
 {
+    beginnings_are_unique();
     let arranged = proof.arranged();
     match run(rt, alloc, proof, f, start, budget, gate) {
-        Ok(end) => say_finish(alloc, arranged, f, &end),
+        Ok((end, _)) => say_finish(alloc, arranged, f, &end),
         Err(stop) => say_stop(alloc, &arranged.program, &stop),
     }
 }
@@ -91,48 +87,6 @@ pub(crate) fn say_no_start(alloc: Global, fault: &StartFault) -> Result<Said, Al
     })
 }
 
-/// Whether this start can be run: no parallel call can be reached from `init`, where that runs first.
-fn can_begin(alloc: Global, p: &Program, fresh: bool) -> Result<bool, AllocError>
-    ensures yes { IfOk result (λ yes. yes ≡ true
-        → fresh ≡ true → InitIsSequential (program_of p.now)) }
-    ensures no { IfOk result (λ yes. yes ≡ false
-        → (fresh ≡ true) × (InitIsSequential (program_of p.now) → ⊥)) }
-{
-    if fresh {
-        is_init_sequential(alloc, p)
-    } else {
-        Ok(true)
-    }
-}
-
-/// The answer to a start of procedure `f`. Where a parallel call can be reached from `init`, which
-/// runs first, it isn't run: such a run isn't built yet.
-fn answer_to_begin<R: Threads + Sync, G: Gate>(
-    rt: &R,
-    alloc: Global,
-    proof: &Proof<'_>,
-    f: ProcId,
-    start: Start,
-    budget: Budget,
-    gate: &G,
-) -> Result<Said, AllocError>
-    requires there { f.0 < length (arranged_in proof.now).program.procedures.items }
-    requires starts { StartsWith (program_in proof.now) f start.fresh start.vars start.heap
-        start.parts.items }
-    requires sequential { IsSequential (program_in proof.now) f }
-    requires steps { (1 ≤ budget.steps) × (budget.steps ≤ STEPS) }
-    requires waits { (1 ≤ budget.waits) × (budget.waits ≤ WAITS) }
-    ensures { IfOk result (λ said. BeginAnswer (program_in proof.now) f start.fresh start.vars
-        start.heap start.unit budget.steps budget.waits said.text.items said.status) }
-{
-    let arranged = proof.arranged();
-    if can_begin(alloc, &arranged.program, start.fresh)? {
-        answer_to_start(rt, alloc, proof, f, start, budget, gate)
-    } else {
-        say_refusal(alloc, &Refusal::At(RefusalKind::NotBuilt, FIRST_PLACE))
-    }
-}
-
 /// The answer to a run of procedure `f` from the text of a state.
 fn answer_to_state<R: Threads + Sync, G: Gate>(
     rt: &R,
@@ -146,7 +100,6 @@ fn answer_to_state<R: Threads + Sync, G: Gate>(
     requires there { f.0 < length (arranged_in proof.now).program.procedures.items }
     requires free { HoldsNone (program_in proof.now) f }
     requires other { sets_up (program_in proof.now) f ≡ false }
-    requires sequential { IsSequential (program_in proof.now) f }
     requires steps { (1 ≤ budget.steps) × (budget.steps ≤ STEPS) }
     requires waits { (1 ≤ budget.waits) × (budget.waits ≤ WAITS) }
     ensures { IfOk result (λ said. StateAnswer (program_in proof.now) f state.now
@@ -154,7 +107,7 @@ fn answer_to_state<R: Threads + Sync, G: Gate>(
 {
     let arranged = proof.arranged();
     match read(alloc, arranged, f, state) {
-        Ok(start) => answer_to_begin(rt, alloc, proof, f, start, budget, gate),
+        Ok(start) => answer_to_start(rt, alloc, proof, f, start, budget, gate),
         Err(fault) => say_no_start(alloc, &fault),
     }
 }
@@ -172,7 +125,6 @@ fn run_state_file<R: Threads + Sync, S: Shelf, G: Gate>(
     requires there { f.0 < length (arranged_in proof.now).program.procedures.items }
     requires free { HoldsNone (program_in proof.now) f }
     requires other { sets_up (program_in proof.now) f ≡ false }
-    requires sequential { IsSequential (program_in proof.now) f }
     requires steps { (1 ≤ words.now.budget.steps) × (words.now.budget.steps ≤ STEPS) }
     requires waits { (1 ≤ words.now.budget.waits) × (words.now.budget.waits ≤ WAITS) }
     ensures status { IfOk result (λ said. said.status < 8) }
@@ -195,50 +147,6 @@ fn run_state_file<R: Threads + Sync, S: Shelf, G: Gate>(
         Ok(state) => answer_to_state(rt, alloc, proof, f, state.as_slice(), words.budget, gate),
         Err(FetchFault::Failed) => say_of(alloc, "read fault: ", words.state.as_bytes(), 7),
         Err(FetchFault::OutOfMemory) => Err(AllocError),
-    }
-}
-
-/// The answer to a run of procedure `f`. The state's file is left alone where a parallel call can
-/// be reached from it: such a run isn't built yet. Whether one can be reached from `init` counts
-/// only once the state is read, and is fresh.
-fn run_entry<R: Threads + Sync, S: Shelf, G: Gate>(
-    rt: &R,
-    alloc: Global,
-    proof: &Proof<'_>,
-    f: ProcId,
-    words: &RunWords<'_>,
-    shelf: &mut S,
-    gate: &G,
-) -> Result<Said, AllocError>
-    requires there { f.0 < length (arranged_in proof.now).program.procedures.items }
-    requires proved { IsProved (program_in proof.now) }
-    requires entry { IsEntry (program_in proof.now) words.now.procedure.now f }
-    requires steps { (1 ≤ words.now.budget.steps) × (words.now.budget.steps ≤ STEPS) }
-    requires waits { (1 ≤ words.now.budget.waits) × (words.now.budget.waits ≤ WAITS) }
-    ensures status { IfOk result (λ said. said.status < 8) }
-    ensures answered { IfOk result (λ said. said.status < 7
-        → RunFileAnswer (S.files shelf.old) (program_in proof.now) words.now.procedure.now
-        words.now.state.now words.now.budget.steps words.now.budget.waits
-        said.text.items said.status) }
-    ensures unread { IfOk result (λ said. said.status ≡ 7
-        → HasRun (program_in proof.now) words.now.procedure.now
-        × Increased (S.faults shelf.old words.now.state.now)
-        (S.faults shelf.new words.now.state.now)
-        × (said.text.items ≡ read_fault_text words.now.state.now)) }
-    ensures files { S.files shelf.new ≡ S.files shelf.old }
-    ensures others { (other : Text)
-        → ((other ≡ words.now.state.now)
-        × HasRun (program_in proof.now) words.now.procedure.now → ⊥)
-        → S.faults shelf.new other ≡ S.faults shelf.old other }
-    ensures quiet { IfOk result (λ said. said.status < 7
-        → (any : Text) → S.faults shelf.new any ≡ S.faults shelf.old any) }
-    ensures counts { (any : Text) → S.faults shelf.old any ≤ S.faults shelf.new any }
-{
-    let arranged = proof.arranged();
-    if is_sequential(alloc, &arranged.program, f)? {
-        run_state_file(rt, alloc, proof, f, words, shelf, gate)
-    } else {
-        say_refusal(alloc, &Refusal::At(RefusalKind::NotBuilt, FIRST_PLACE))
     }
 }
 
@@ -276,7 +184,7 @@ fn run_proved<R: Threads + Sync, S: Shelf, G: Gate>(
 {
     let arranged = proof.arranged();
     match entry(alloc, arranged, words.procedure) {
-        Ok(f) => run_entry(rt, alloc, proof, f, words, shelf, gate),
+        Ok(f) => run_state_file(rt, alloc, proof, f, words, shelf, gate),
         Err(fault) => say_no_start(alloc, &fault),
     }
 }

@@ -5,6 +5,7 @@ mod compared;
 mod examples;
 mod fetches;
 mod files;
+mod forks;
 mod numbers;
 mod orders;
 mod proofs;
@@ -30,7 +31,7 @@ use replays::{
     ABSENT_CELLS, AFTER_A_RACE, BAD_LINES, BEFORE_SCHEDULES, FIRST_PAIRS, FIRST_RACES, FIRST_TASKS,
     NEW_CELLS, NO_EVENTS, NO_LOCATIONS, PARENTS, READERS, REGIONS, REPLAYED_FILES, SKIPPED_LINES,
 };
-use sf_io::{MemShelf, MemSink, OpenGate};
+use sf_io::{Gate, MemShelf, MemSink, OpenGate};
 use std::alloc::Global;
 use std::process::Abort;
 use std::sync::Wait;
@@ -54,6 +55,24 @@ fn text_of(alloc: Global, text: &str) -> Result<String, Fail> {
     Ok(text)
 }
 
+/// The command says that to the words over that shelf, with that status, where threads pass that
+/// gate.
+fn says_at<R: Threads + Wait + Sync + Abort, G: Gate>(
+    rt: &R,
+    alloc: Global,
+    words: &[&str],
+    shelf: &mut MemShelf,
+    answer: (&str, u8),
+    gate: &G,
+) -> Result<(), Fail> {
+    let mut sink = MemSink::new(alloc, usize::MAX);
+    let status = smallfoot(rt, alloc, words, shelf, &mut sink, gate);
+    let out = String::from_utf8_lossy(alloc, sink.bytes())?;
+    assert_eq!(rt; out.as_str(), text_of(alloc, answer.0)?.as_str());
+    assert_eq!(rt; status, answer.1);
+    Ok(())
+}
+
 /// The command says that to the words over that shelf, with that status.
 fn says<R: Threads + Wait + Sync + Abort>(
     rt: &R,
@@ -62,12 +81,7 @@ fn says<R: Threads + Wait + Sync + Abort>(
     shelf: &mut MemShelf,
     answer: (&str, u8),
 ) -> Result<(), Fail> {
-    let mut sink = MemSink::new(alloc, usize::MAX);
-    let status = smallfoot(rt, alloc, words, shelf, &mut sink, &OpenGate);
-    let out = String::from_utf8_lossy(alloc, sink.bytes())?;
-    assert_eq!(rt; out.as_str(), text_of(alloc, answer.0)?.as_str());
-    assert_eq!(rt; status, answer.1);
-    Ok(())
+    says_at(rt, alloc, words, shelf, answer, &OpenGate)
 }
 
 /// A shelf with the files of `files`, and with that text under the name `given`.

@@ -48,15 +48,15 @@ fn tell<K: Sink>(sink: &mut K, said: &Said) -> u8
 /// sink, whole or, at status 8 or 9, no further than some prefix of it. The statuses are 0 where
 /// the program is proved, and a run of it has ended, 1 where a procedure fails, 2 where the words
 /// are no command, 3 where the file is refused, 4 where the text of a proof is, 5 where a run has
-/// no such start, 6 where it has spent its units or tries, 7 where the shelf failed, 8 where the
-/// sink did, and 9 where memory ran out. Of `order` it is 0 where the resources have ranks, and 12
-/// where there is a cycle; of `replay` 0 where neither an absent cell nor a race is found of the
-/// schedule, 10 where one is, and 11 where it is refused. Where no count of faults increases, the
-/// answer is the one that is due, whole, or memory ran out.
+/// no such start, 6 where a task of it has spent its units or tries, 7 where the shelf failed, 8
+/// where the sink did, and 9 where memory ran out. Of `order` it is 0 where the resources have
+/// ranks, and 12 where there is a cycle; of `replay` 0 where neither an absent cell nor a race is
+/// found of the schedule, 10 where one is, and 11 where it is refused. Where no count of faults
+/// increases, the answer is the one that is due, whole, or memory ran out.
 ///
-/// Whatever the number of workers and the gate, the answer is the same. Workers beside the first
-/// one are threads; a run so far starts none: one from whose entry a parallel call can be reached
-/// isn't built yet, nor one that begins in `init` where that reaches one, and has its file refused.
+/// Workers beside the first one are threads, and so are the tasks of a run beside the first one.
+/// Whatever the number of workers, the threads and the gate, the answer is the same, but of a run
+/// in which a parallel call can be reached: of that it is one that may come of its tasks.
 pub fn smallfoot<'a, R: Threads + Wait + Sync, S: Shelf, K: Sink, G: Gate>(
     rt: &R,
     alloc: Global,
@@ -98,20 +98,20 @@ pub fn smallfoot<'a, R: Threads + Wait + Sync, S: Shelf, K: Sink, G: Gate>(
         → (Increased (K.faults sink.old) (K.faults sink.new) → ⊥)
         → IsAnswering result ⊎ (result ≡ 9) }
     // The same with the answer: what is put is that to these very bytes. Of a run a status is also
-    // accepting where a start is refused, or units or tries are spent.
+    // accepting where a start is refused, or a task's units or tries are spent.
     ensures accepted { AsksForProof (order_of (words_of words.now)) → IsAccepting result
         → (text : Text)
         × (K.written sink.new ≡ with_bytes (K.written sink.old) text)
         × Accepted (S.files shelf.old) (words_of words.now) text result }
-    // A run that is finished has ended: what is put is the state that a numbered list of events
-    // reaches from the start which was read.
+    // A run that is finished has ended, whatever its tasks: what is put is the state that a
+    // numbered list of events reaches from the start which was read.
     ensures ended { result ≡ 0 → (text : Text)
         × (K.written sink.new ≡ with_bytes (K.written sink.old) text)
         × Ended (S.files shelf.old) (order_of (words_of words.now)) text }
     // No file changes, and no count falls. Where an answer is given none has increased: no proof's
-    // where the program's file is refused, no state's where a procedure fails, the entry is
-    // refused, or a parallel call can be reached from it, and no schedule's where the state is
-    // refused too. A count increases only where the work comes to that file.
+    // where the program's file is refused, no state's where a procedure fails or the entry is
+    // refused, and no schedule's where the state is refused too. A count increases only where the
+    // work comes to that file.
     ensures counts { (any : Text) → S.faults shelf.old any ≤ S.faults shelf.new any }
     ensures quiet { IsAnswering result → (any : Text)
         → S.faults shelf.new any ≡ S.faults shelf.old any }

@@ -47,7 +47,7 @@ first-one names name j k a b = elim (cases_lt j k) [
 ]
 
 -- a run begins in one way
-kind-one : (p : Program) (is_fresh : Bool) (b c : Beginning) → IsBeginning p is_fresh b → IsBeginning p is_fresh c
+pub kind-one : (p : Program) (is_fresh : Bool) (b c : Beginning) → IsBeginning p is_fresh b → IsBeginning p is_fresh c
     → b ≡ c
 kind-one p true settled c k l = absurd k
 kind-one p true (fresh n h) settled k l = absurd l

@@ -1,23 +1,29 @@
 -- The laws of runs of one task, under the names of their functions in src/laws.rt.
+use Rattle.std.specs.Prelude.{ℕ, Bool, List}
 use Rattle.std.proofs.Common.{subst, sym}
-use Rattle.sf_run.specs.Checked.Laws.{BasesAreFree, BeginningsAreStarts, BeginningsAreUnique, EndsAreNumbered, EndsAreUnique, InitSequentialIsDecided, LoneTasksFindRegionsFree, LoneTasksProgress, NumberedRunsReach, OutcomesAreUnique, OutcomesExist, SequentialIsDecided, SequentialRunsAreLone, SpentRunsHaveUsedAll, StartsHaveOneOutcome, UnitsStayFree, WaitingRunsTryInVain}
+use Rattle.sf_run.specs.Checked.Laws.{BasesAreFree, BeginningsAreStarts, BeginningsAreUnique, EndsAreNumbered, EndsAreUnique, InitSequentialIsDecided, LoneTasksFindRegionsFree, LoneTasksProgress, NumberedEndsComeAlone, NumberedRunsReach, OutcomesAreUnique, OutcomesExist, SequentialIsDecided, SequentialRunsAreLone, SpentRunsHaveUsedAll, SpentStepsComeAlone, StartsHaveOneOutcome, UnitsStayFree, WaitingRunsTryInVain, WaitsComeAlone}
 use Rattle.sf_core.proofs.Machine.InOrder.Starts.{start-in_order, reach-keeps}
 use Rattle.sf_core.specs.Machine.Alone.{finished, spent, waiting, Alone}
 use Rattle.sf_core.specs.Machine.Config.{Config}
 use Rattle.sf_core.specs.Machine.Supplies.{has, units}
+use Rattle.sf_base.specs.declared.ids.ProcId.{ProcId}
 use Rattle.sf_core.specs.Program.Formed.{IsFormed}
 use Rattle.sf_core.specs.Program.Syntax.{Program}
 use Rattle.sf_calls.specs.FirstBreach.{Conditions}
 use Rattle.sf_calls.specs.Checked.Lemmas.Broken.{first_broken}
 use Rattle.sf_calls.specs.declared.breach.Breach.TheVariants.{Reentered}
-use Rattle.sf_foot.specs.Starting.{store_of}
-use Rattle.sf_heap.specs.Cells.{heap_of}
+use Rattle.sf_foot.specs.declared.vars.Vars.{Vars}
+use Rattle.sf_foot.specs.Starting.{StartsWith, store_of}
+use Rattle.sf_heap.specs.Cells.{Cells, heap_of}
+use Rattle.sf_machine.specs.Beginning.{Begins}
 use Rattle.sf_run.specs.Checked.Lone.{IsLone}
+use Rattle.sf_run.specs.Sequential.{IsSequentialStart}
 use Rattle.sf_run.proofs.Beginnings.{begin-base, begin-one, begin-same, begin-sequential, begin-start, begin-starts}
 use Rattle.sf_run.proofs.Finishes.{ends-same}
 use Rattle.sf_run.proofs.Lone.{reach-lone, start-lone}
 use Rattle.sf_run.proofs.Numbering.{alone-numbered, end-numbered, reach-numbered, spent-spending, waiting-numbered}
 use Rattle.sf_run.proofs.Outcomes.{from-one}
+use Rattle.sf_run.proofs.Prefix.{end-prefix, spent-prefix, waiting-prefix}
 use Rattle.sf_run.proofs.Progress.{lone-outcome, lone-progress}
 use Rattle.sf_run.proofs.Regions.{NeverReenters, reach-apart, region-free, start-apart}
 use Rattle.sf_run.proofs.SettingUp.{init-told}
@@ -102,15 +108,37 @@ unfolding NumberedRunsReach
 numbered_runs_reach p start c base count events n =
     reach-numbered p events start c (has (units base count)) n.supply n.run
 
+-- where a sequential procedure begins, there is a lone task
+pub begins-lone : (p : Program) (f : ProcId) (is_fresh : Bool) (vars : Vars) (heap : Cells)
+    (parts : List (List ℕ)) (start : Config) → IsSequentialStart p f is_fresh
+    → StartsWith p f is_fresh vars heap parts → Begins p f is_fresh vars heap start → IsLone p start
+begins-lone p f is_fresh vars heap parts start n s b =
+    subst (IsLone p) (sym (begin-one p f is_fresh vars heap parts s start b))
+    (start-lone p f (store_of s.beginning s.procedure vars) (heap_of heap) s.config s.starts
+    (begin-sequential p f is_fresh vars heap parts s n))
+
 pub ends_are_numbered : EndsAreNumbered
 unfolding EndsAreNumbered
 ends_are_numbered p f is_fresh vars heap parts start c base count n s b a =
-    let g = s.procedure in
-    let one = start-lone p f (store_of s.beginning g vars) (heap_of heap) s.config s.starts
-    (begin-sequential p f is_fresh vars heap parts s n) in
     end-numbered p start c base count
     (alone-numbered p (units base count) start (finished c)
-    (subst (IsLone p) (sym (begin-one p f is_fresh vars heap parts s start b)) one) a)
+    (begins-lone p f is_fresh vars heap parts start n s b) a)
+
+pub numbered_ends_come_alone : NumberedEndsComeAlone
+unfolding NumberedEndsComeAlone
+numbered_ends_come_alone p f is_fresh vars heap parts start c base count n s b e =
+    end-prefix p start c base count (begins-lone p f is_fresh vars heap parts start n s b) e
+
+pub spent_steps_come_alone : SpentStepsComeAlone
+unfolding SpentStepsComeAlone
+spent_steps_come_alone p f is_fresh vars heap parts start base count used n s b e =
+    spent-prefix p start base count used (begins-lone p f is_fresh vars heap parts start n s b) e
+
+pub waits_come_alone : WaitsComeAlone
+unfolding WaitsComeAlone
+waits_come_alone p f is_fresh vars heap parts start c base count events unit left r n s b e going w =
+    waiting-prefix p start c base count events unit left r
+    (begins-lone p f is_fresh vars heap parts start n s b) e going w
 
 pub spent_runs_have_used_all : SpentRunsHaveUsedAll
 unfolding SpentRunsHaveUsedAll

@@ -8,8 +8,16 @@ pub mod Searching
 pub mod SettingUp
 pub mod Telling
 pub mod Numbering
+pub mod Prefix
+pub mod Lists
+pub mod Tries
 pub mod Beginnings
 pub mod Finishes
 pub mod Proved
 pub mod Closing
-pub mod Turns
+pub mod Ending
+pub mod Tables
+pub mod Playing
+pub mod Alone
+pub mod Stops
+pub mod Fresh

@@ -19,7 +19,7 @@ use Rattle.sf_core.specs.Machine.Step.{Event, TaskStep, procedure_at, Step}
 use Rattle.sf_core.specs.Machine.Supplies.{Supply, has, units, CommandTakes, NextTakes, Takes}
 use Rattle.sf_core.specs.Program.Syntax.{Command, assign, look_up, mutate, new, dispose, if, while, call, fork, with, Procedure, Program}
 use Rattle.sf_run.specs.Checked.Searches.{IsFork}
-use Rattle.sf_run.specs.Checked.Laws.{IsNumberedEnd}
+use Rattle.sf_run.specs.Running.{IsNumberedEnd}
 use Rattle.sf_run.specs.Checked.Lone.{inside, IsOfBody, IsLoneFrame, IsLone}
 use Rattle.sf_run.specs.Sequential.{IsSequential}
 use Rattle.sf_run.proofs.Bodies.{site-here}
@@ -48,7 +48,7 @@ command-takes unit us (fork place c d) n = absurd (n tt)
 command-takes unit us (with place r test body) n = (us, (refl, refl), refl)
 
 -- a command of a procedure from which no parallel call can be reached is none
-command-no_fork : (p : Program) (f : ProcId) (g : Procedure) (c : Command) (rest : List Item)
+pub command-no_fork : (p : Program) (f : ProcId) (g : Procedure) (c : Command) (rest : List Item)
     → procedure_at p f ≡ Some g → IsSequential p f → IsOfBody g.body (command c ∷ rest) → IsFork c → ⊥
 command-no_fork p f g c rest there n k h =
     n (directly (g, there, (_, k.0 _ (site-here (inside rest) c), fork_has c h)))
@@ -180,7 +180,7 @@ entry-spending p (event ∷ events) c d before after given used (between, rest, 
     )
 
 -- as many units as there are
-units-length : (base count : ℕ) → length (units base count) ≡ count
+pub units-length : (base count : ℕ) → length (units base count) ≡ count
 units-length base zero = refl
 units-length base (suc count) = ap suc (units-length (suc base) count)
 

@@ -1,4 +1,4 @@
--- That a program which tags prove is sound.
+-- That a program which tags prove is accepted.
 -- Names: `proved-WHAT`.
 use Rattle.std.specs.Prelude.{List, [], ◌∷◌, map, Contains}
 use Rattle.std.proofs.Common.{inl, inr, subst}
@@ -13,8 +13,8 @@ use Rattle.sf_precise.specs.Annotations.{AreOrdersOf, annotations_in}
 use Rattle.sf_precise.specs.declared.arranged.Arranged.{Arranged}
 use Rattle.sf_precise.specs.Checked.Laws.{OrderedIsDetermined, OrdersFromTruncation}
 use Rattle.sf_rules.specs.Setting.{setting_of}
-use Rattle.sf_core.specs.Machine.Sound.{IsSound}
-use Rattle.sf_sound.specs.Proofs.{ProofsAreSound}
+use Rattle.sf_own.specs.Checked.Accepted.{IsAccepted}
+use Rattle.sf_sound.specs.Checked.Bodies.{ProvedBodiesAreSafe}
 use Rattle.sf_sym.specs.declared.tag.Tag.{Tag}
 
 -- annotations that have an order are determined
@@ -29,12 +29,19 @@ proved-determined law (note ∷ notes) (order ∷ orders) are a among =
       | inr later ↦ proved-determined law notes orders are.1 a later
     ]
 
--- so what the code has arranged is sound, if tags prove it
-pub proved-sound : ProofsAreSound → ConditionsFromTruncation → SetsFromTruncation → OrdersFromTruncation
-    → OrderedIsDetermined → (a : Arranged) (tags : List Tag) → Proven a tags → IsSound (program_of a.program)
-unfolding ProofsAreSound
-proved-sound sound conditions sets orders determined a tags (in_order, ordering, proves) =
-    sound (setting_of in_order a) tags a.program.formed (conditions (program_of a.program) a.conditions)
-    (sets (program_of a.program) a.calls a.sets)
-    (proved-determined determined (annotations_in (program_of a.program))
-    (map (λ o. assertion_of o.assertion) a.orders.items) (orders _ _ a.ordered)) ordering proves
+-- so what the code has arranged is accepted, if tags prove it
+pub proved-accepted : ProvedBodiesAreSafe → ConditionsFromTruncation → SetsFromTruncation
+    → OrdersFromTruncation → OrderedIsDetermined → (a : Arranged) (tags : List Tag) → Proven a tags
+    → IsAccepted (program_of a.program)
+unfolding ProvedBodiesAreSafe
+proved-accepted safe conditions sets orders determined a tags (in_order, ordering, proves) =
+    let kept = conditions (program_of a.program) a.conditions in
+    let all = proved-determined determined (annotations_in (program_of a.program))
+    (map (λ o. assertion_of o.assertion) a.orders.items) (orders _ _ a.ordered) in
+    record {
+      formed = a.program.formed;
+      conditions = kept;
+      determined = all;
+      bodies = safe (setting_of in_order a) tags a.program.formed kept
+          (sets (program_of a.program) a.calls a.sets) all ordering proves;
+    }

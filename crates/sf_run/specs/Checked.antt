@@ -3,4 +3,6 @@
 pub mod Laws
 pub mod Lone
 pub mod Searches
-pub mod Turns
+pub mod Opened
+pub mod Gathered
+pub mod Closed

@@ -9,15 +9,18 @@ ghost use Rattle.sf_run.specs.Checked.Laws.{
   InitSequentialIsDecided,
   LoneTasksFindRegionsFree,
   LoneTasksProgress,
+  NumberedEndsComeAlone,
   NumberedRunsReach,
   OutcomesAreUnique,
   OutcomesExist,
   SequentialIsDecided,
   SequentialRunsAreLone,
   SpentRunsHaveUsedAll,
+  SpentStepsComeAlone,
   StartsHaveOneOutcome,
   UnitsStayFree,
   WaitingRunsTryInVain,
+  WaitsComeAlone,
 };
 
 /// From a start and a supply of units at most one outcome comes.
@@ -101,6 +104,27 @@ pub fn numbered_runs_reach()
 #[tactic(auto, using(crate::proofs::Closing::ends_are_numbered))]
 pub fn ends_are_numbered()
     ensures { EndsAreNumbered }
+{}
+
+/// Where no parallel call can be reached and a numbered list of events leads to where the entry has
+/// ended, the run ends there.
+#[tactic(auto, using(crate::proofs::Closing::numbered_ends_come_alone))]
+pub fn numbered_ends_come_alone()
+    ensures { NumberedEndsComeAlone }
+{}
+
+/// Where after a numbered list the entry's task has used all units and would go on, the run has used
+/// its units.
+#[tactic(auto, using(crate::proofs::Closing::spent_steps_come_alone))]
+pub fn spent_steps_come_alone()
+    ensures { SpentStepsComeAlone }
+{}
+
+/// Where a numbered list leads to where the entry's task is at a region whose condition is false, and
+/// leaves it a unit, the run waits there.
+#[tactic(auto, using(crate::proofs::Closing::waits_come_alone))]
+pub fn waits_come_alone()
+    ensures { WaitsComeAlone }
 {}
 
 /// Where a run has used its units, after some numbered list the entry's task was given so many, has

@@ -1,196 +1,247 @@
-//! The run of one task, which gives its events the units from the start's first one on.
+//! A run: its tasks, each with its part, at a table of resources.
 
-ghost use Rattle.std.specs.Prelude.{◌≡◌, ◌+◌, ◌^◌, ◌<◌, ◌≤◌, None, length, IfErr, IfOk, IfSome};
+ghost use Rattle.std.specs.Prelude.{◌≡◌, ◌<◌, ◌≤◌, [], false, length, map, IfErr, IfOk, IsTrue};
 ghost use Rattle.sf_base.specs.declared.limits.TheConstants.{STEPS, WAITS};
-ghost use Rattle.sf_calls.specs.FirstBreach.{Conditions};
-ghost use Rattle.sf_core.specs.Machine.Alone.{AloneFrom};
-ghost use Rattle.sf_core.specs.Machine.Supplies.{units};
+ghost use Rattle.sf_core.specs.Machine.Config.{Config};
 ghost use Rattle.sf_core.specs.Program.ProgramView.{program_of};
 ghost use Rattle.sf_foot.specs.Starting.{StartsWith};
-ghost use Rattle.sf_machine.specs.Configs.{config_of, IsWide};
-ghost use Rattle.sf_run.specs.Checked.Turns.{GoesOn, Halts, HaltsAtLast, IsAlone, IsBlank, outcome_of};
-ghost use Rattle.sf_run.specs.Running.{EndsWith, Stops, program_in};
+ghost use Rattle.sf_own.specs.Checked.Accepted.{IsAccepted};
+ghost use Rattle.sf_part.specs.Answers.{Answers};
+ghost use Rattle.sf_part.specs.Parts.{entry_of};
+ghost use Rattle.sf_part.specs.PartView.{part_of};
+ghost use Rattle.sf_region.specs.Waits.{BeganAt, first_of, program_in as program_at};
+ghost use Rattle.sf_run.specs.Checked.Closed.{HasPlaces, IsClosed};
+ghost use Rattle.sf_run.specs.Running.{EndsWith, IsFinish, IsLog, IsStop, IsTable, Stops, program_in};
 ghost use Rattle.sf_run.specs.Sequential.{IsSequentialStart};
-ghost use Rattle.sf_core.specs.Machine.Sound.{IsSound};
+ghost use Rattle.sf_threads.specs.Checked.Running.{HasEnded, IsRunning};
+ghost use Rattle.sf_threads.specs.Stopping.{Says};
 
-use crate::stop::{Budget, Stop};
-use sf_base::{ProcId, ResId, TaskPath};
+use crate::finishing::finish;
+use crate::opening::open;
+use crate::stop::Budget;
+use sf_base::ProcId;
 use sf_calls::laws::{conditions_from_truncation, sets_from_truncation};
 use sf_check::Proof;
-use sf_core::Program;
 use sf_foot::{Finish, Start};
-use sf_heap::Cell;
 use sf_io::Gate;
-use sf_machine::{
-    Config, Event, Stepped, answers_are_exclusive, begin_with, refused_events_do_not_step, step,
-};
+use sf_part::going::going_keeps_path;
+use sf_part::whole::running_parts_run;
+use sf_part::{Local, Log};
+use sf_precise::Arranged;
 use sf_precise::laws::{ordered_is_determined, orders_from_truncation};
-use sf_sound::proofs_are_sound;
+use sf_region::laws::drained_tasks_have_spent_steps;
+use sf_region::{Closed, Regions, Task};
+use sf_sound::proved_bodies_are_safe;
+use sf_threads::{Crew, Stop, run_task};
 use std::alloc::{AllocError, Global};
 use std::thread::Threads;
 
-/// Why the entry's task makes no further event.
-#[derive(Clone, Copy)]
-enum Halt {
-    /// It has ended.
-    Ended,
-    /// It would go on, and no unit is left.
-    Spent,
-    /// It is at a region of that resource, and the condition is false.
-    Waiting(ResId),
-}
-
-/// Runs procedure `f` of a proved program from a start of it, where no parallel call can be reached
-/// from `f`, nor, where the start is fresh, from `init`. The events of `init` come first, and are
-/// numbered by the same units. An `Ok` has what the run ends with. `Steps` says that the task would go on and no unit
-/// is left. `Waits` says that it is at a region whose condition is false: no other task would make
-/// it true, so each try that the budget allows would be in vain. What comes of a start is one
-/// thing, so each of these answers comes only where it is that; an `Err` may also say that memory
-/// ran out.
-///
-/// So far there are no parallel calls to run, whatever the gate: no thread is started and nothing
-/// waits.
-pub fn run<R: Threads + Sync, G: Gate>(
-    _rt: &R,
+/// Runs procedure `f` of a proved program from a start of it. From a fresh start `init` runs first.
+/// Each task makes its own steps on its own part of the variables and cells; a table has what belongs
+/// to resources that no task holds, and what crosses at regions; the two children of a parallel call
+/// run on threads of their own, where these can be made. Each task passes the gate at its start and at
+/// each try at a region. An `Ok` has what an interleaving of the tasks ends with, and the receipt of
+/// the table. `Steps` says that a task would go on, and has used as many units as it was given;
+/// `Waits` that it has tried a region in vain as often as the budget allows, and has the table's
+/// receipt for that. Where no parallel call can be reached from `f`, nor, where the start is fresh,
+/// from `init`, each of these answers comes only where it is what comes of the one task. An `Err` may
+/// also say that memory ran out.
+pub fn run<'p, R: Threads + Sync, G: Gate>(
+    rt: &R,
     alloc: Global,
-    proof: &Proof<'_>,
+    proof: &Proof<'p>,
     f: ProcId,
     start: Start,
     budget: Budget,
-    _gate: &G,
-) -> Result<Finish, Stop>
+    gate: &G,
+) -> Result<(Finish, Closed<'p>), Stop<'p>>
     requires starts { StartsWith (program_in proof.now) f start.fresh start.vars start.heap
         start.parts.items }
-    requires sequential { IsSequentialStart (program_in proof.now) f start.fresh }
     requires steps { (1 ≤ budget.steps) × (budget.steps ≤ STEPS) }
     requires waits { (1 ≤ budget.waits) × (budget.waits ≤ WAITS) }
-    ensures ends { IfOk result
-        (EndsWith (program_in proof.now) f start.fresh start.vars start.heap start.unit
-        budget.steps) }
-    ensures stops { IfErr result
-        (Stops (program_in proof.now) f start.fresh start.vars start.heap start.unit budget) }
+    ensures ends { IfOk result (λ t. IsFinish (program_in proof.now) f start.fresh start.vars
+        start.heap start.unit budget.steps t.0) }
+    ensures closed { IfOk result (λ t. IsTable (program_in proof.now) f start.fresh start.vars
+        start.heap start.unit budget.steps t.1) }
+    ensures stops { IfErr result (IsStop (program_in proof.now) f start.fresh start.vars start.heap
+        start.unit budget) }
+    ensures ends_alone { IsSequentialStart (program_in proof.now) f start.fresh
+        → IfOk result (λ t. EndsWith (program_in proof.now) f start.fresh start.vars start.heap
+        start.unit budget.steps t.0) }
+    ensures stops_alone { IsSequentialStart (program_in proof.now) f start.fresh
+        → IfErr result (Stops (program_in proof.now) f start.fresh start.vars start.heap start.unit
+        budget) }
 {
-    let p = proved_program(proof);
-    run_sound(alloc, p, f, start, budget)
+    match run_kept(rt, alloc, proof, f, start, budget, gate, false) {
+        Ok((finish, closed, _log)) => Ok((finish, closed)),
+        Err(stop) => Err(stop),
+    }
 }
 
-/// The program that is proved: so it is sound.
-fn proved_program<'a>(proof: &Proof<'a>) -> &'a Program
-    ensures program { program_of result.now ≡ program_in proof.now }
-    ensures conditions { Conditions (program_of result.now) }
-    ensures sound { IsSound (program_of result.now) }
+/// The same run, with a log of its events where it is to keep one: from a start that isn't fresh it
+/// has just one entry for each event of the list by which the run has ended, and of two events whose
+/// order counts the later has the greater stamp.
+pub fn run_kept<'p, R: Threads + Sync, G: Gate>(
+    rt: &R,
+    alloc: Global,
+    proof: &Proof<'p>,
+    f: ProcId,
+    start: Start,
+    budget: Budget,
+    gate: &G,
+    keep: bool,
+) -> Result<(Finish, Closed<'p>, Log), Stop<'p>>
+    requires starts { StartsWith (program_in proof.now) f start.fresh start.vars start.heap
+        start.parts.items }
+    requires steps { (1 ≤ budget.steps) × (budget.steps ≤ STEPS) }
+    requires waits { (1 ≤ budget.waits) × (budget.waits ≤ WAITS) }
+    ensures ends { IfOk result (λ t. IsFinish (program_in proof.now) f start.fresh start.vars
+        start.heap start.unit budget.steps t.0) }
+    ensures closed { IfOk result (λ t. IsTable (program_in proof.now) f start.fresh start.vars
+        start.heap start.unit budget.steps t.1) }
+    ensures stops { IfErr result (IsStop (program_in proof.now) f start.fresh start.vars start.heap
+        start.unit budget) }
+    ensures ends_alone { IsSequentialStart (program_in proof.now) f start.fresh
+        → IfOk result (λ t. EndsWith (program_in proof.now) f start.fresh start.vars start.heap
+        start.unit budget.steps t.0) }
+    ensures stops_alone { IsSequentialStart (program_in proof.now) f start.fresh
+        → IfErr result (Stops (program_in proof.now) f start.fresh start.vars start.heap start.unit
+        budget) }
+    ensures log { IsTrue keep → start.fresh ≡ false → IfOk result (λ t. IsLog (program_in proof.now) f
+        start.fresh start.vars start.heap start.unit budget.steps t.0
+        (map entry_of t.2.entries.items)) }
 {
-    proofs_are_sound();
+    let p = proved_program(proof);
+    run_accepted(rt, alloc, p, f, start, budget, gate, keep)
+}
+
+/// The program that is proved, arranged: so it is accepted.
+fn proved_program<'p>(proof: &Proof<'p>) -> &'p Arranged
+    ensures program { program_of result.now.program ≡ program_in proof.now }
+    ensures accepted { IsAccepted (program_of result.now.program) }
+{
+    proved_bodies_are_safe();
     conditions_from_truncation();
     sets_from_truncation();
     orders_from_truncation();
     ordered_is_determined();
     proof.proves();
-    &proof.arranged().program
+    proof.arranged()
 }
 
-/// The same run, of a program that is sound.
-fn run_sound(
+/// The same run, of a program that is accepted.
+fn run_accepted<'p, R: Threads + Sync, G: Gate>(
+    rt: &R,
     alloc: Global,
-    p: &Program,
+    p: &'p Arranged,
     f: ProcId,
     start: Start,
     budget: Budget,
-) -> Result<Finish, Stop>
-    requires starts { StartsWith (program_of p.now) f start.fresh start.vars start.heap
+    gate: &G,
+    keep: bool,
+) -> Result<(Finish, Closed<'p>, Log), Stop<'p>>
+    requires accepted { IsAccepted (program_of p.now.program) }
+    requires starts { StartsWith (program_of p.now.program) f start.fresh start.vars start.heap
         start.parts.items }
-    requires conditions { Conditions (program_of p.now) }
-    requires sound { IsSound (program_of p.now) }
-    requires sequential { IsSequentialStart (program_of p.now) f start.fresh }
-    requires steps { budget.steps ≤ STEPS }
-    ensures ends { IfOk result
-        (EndsWith (program_of p.now) f start.fresh start.vars start.heap start.unit budget.steps) }
-    ensures stops { IfErr result
-        (Stops (program_of p.now) f start.fresh start.vars start.heap start.unit budget) }
+    requires some { 1 ≤ budget.steps }
+    requires most { budget.steps ≤ STEPS }
+    requires waits { 1 ≤ budget.waits }
+    ensures ends { IfOk result (λ t. IsFinish (program_of p.now.program) f start.fresh start.vars
+        start.heap start.unit budget.steps t.0) }
+    ensures closed { IfOk result (λ t. IsTable (program_of p.now.program) f start.fresh start.vars
+        start.heap start.unit budget.steps t.1) }
+    ensures stops { IfErr result (IsStop (program_of p.now.program) f start.fresh start.vars
+        start.heap start.unit budget) }
+    ensures ends_alone { IsSequentialStart (program_of p.now.program) f start.fresh
+        → IfOk result (λ t. EndsWith (program_of p.now.program) f start.fresh start.vars start.heap
+        start.unit budget.steps t.0) }
+    ensures stops_alone { IsSequentialStart (program_of p.now.program) f start.fresh
+        → IfErr result (Stops (program_of p.now.program) f start.fresh start.vars start.heap
+        start.unit budget) }
+    ensures log { IsTrue keep → start.fresh ≡ false → IfOk result (λ t.
+        IsLog (program_of p.now.program) f start.fresh start.vars start.heap start.unit
+        budget.steps t.0 (map entry_of t.2.entries.items)) }
 {
-    let first = start.unit;
-    let mut config = begin_with(alloc, p, f, start)?;
-    match run_alone(alloc, p, &mut config, first, budget.steps)? {
-        Halt::Ended => {
-            let finish = config.finish(alloc, p, f)?;
-            Ok(finish)
-        }
-        Halt::Spent => Err(Stop::Steps(TaskPath::entry(), budget.steps)),
-        Halt::Waiting(r) => Err(Stop::Waits(TaskPath::entry(), r, budget.waits)),
+    running_parts_run();
+    going_keeps_path();
+    drained_tasks_have_spent_steps();
+    let (regions, task) = match open(rt, alloc, p, f, start, budget.steps, gate, keep) {
+        Ok(opened) => opened,
+        Err(stop) => return Err(stop),
+    };
+    let last = match run_tasks(rt, p, &regions, task, budget.waits, gate) {
+        Ok(last) => last,
+        Err(stop) => return Err(stop),
+    };
+    match close(alloc, p, f, regions, last) {
+        Ok(ended) => Ok(ended),
+        Err(_) => Err(Stop::OutOfMemory),
     }
 }
 
-/// Gives the events of the entry's task so many units from the first one on, until it halts.
-fn run_alone<'p>(
+/// Runs the entry's task at the table, and the tasks that it makes.
+fn run_tasks<'p, R: Threads + Sync, G: Gate>(
+    rt: &R,
+    p: &'p Arranged,
+    regions: &Regions<'p>,
+    task: Task<'p>,
+    waits: u32,
+    gate: &G,
+) -> Result<Task<'p>, Stop<'p>>
+    requires accepted { IsAccepted (program_of p.now.program) }
+    requires running { IsRunning (program_of p.now.program) regions.now task }
+    requires waits { 1 ≤ waits }
+    ensures ended { IfOk result
+        (HasEnded (program_of p.now.program) regions.now task.entry) }
+    ensures says { IfErr result (Says regions.now.1 waits) }
+    ensures places { IfErr result HasPlaces }
+{
+    let crew = Crew {
+        program: p,
+        regions,
+        gate,
+        waits,
+    };
+    match run_task(rt, &crew, task) {
+        Ok(last) => Ok(last),
+        Err(stop) => {
+            tell(&stop);
+            Err(stop)
+        }
+    }
+}
+
+/// What a receipt for misses stands for.
+fn tell(stop: &Stop<'_>)
+    ensures { HasPlaces stop.now }
+{
+    if let Stop::Waits(_, _, misses) = stop {
+        let _count = misses.count();
+    }
+}
+
+/// Closes the table, where the entry's task has ended, and puts together what is there.
+fn close<'p>(
     alloc: Global,
-    p: &'p Program,
-    c: &mut Config<'p>,
-    first: u64,
-    count: u64,
-) -> Result<Halt, AllocError>
-    requires alone { IsAlone (program_of p.now) first (config_of c.old) }
-    requires wide { IsWide (program_of p.now) c.old }
-    requires room { first + count < 2 ^ 64 }
-    ensures wide { IsWide (program_of p.now) c.new }
-    ensures comes { IfOk result (λ halt.
-        AloneFrom (program_of p.now) (config_of c.old) (units first count)
-        (outcome_of halt (config_of c.new))) }
+    p: &'p Arranged,
+    f: ProcId,
+    regions: Regions<'p>,
+    task: Task<'p>,
+) -> Result<(Finish, Closed<'p>, Log), AllocError>
+    requires procedure { f.0 < length p.now.program.procedures.items }
+    requires table { task.0.0 ≡ regions.0 }
+    requires program { program_at task.0.1.begun ≡ program_of p.now.program }
+    requires begun { program_at regions.1 ≡ program_of p.now.program }
+    requires entry { (part_of task.1).part.task ≡ [] }
+    requires first { (first_of task.0.1.begun).part.task ≡ [] }
+    requires ended { Answers (program_of p.now.program) (part_of task.1) Local.Done }
+    requires began { (c : Config) × BeganAt task.0.1.begun c }
+    ensures closed { IfOk result (λ t. IsClosed (program_of p.now.program) f task.entry.0.1.begun
+        (part_of task.entry.1) t.0 t.2) }
+    ensures receipt { IfOk result (λ t. t.1 ≡ task.entry.0.1.begun) }
 {
-    let mut event = blank_event(alloc, p)?;
-    for unit in first..first + count {
-        event.number = unit;
-        event.at = unit;
-        if let Some(halt) = turn(p, c, &event)? {
-            return Ok(halt);
-        }
-    }
-    Ok(last_halt(c))
-}
-
-/// An event of the entry's task, whose cell has nil in each field. Its number is still to set.
-fn blank_event(alloc: Global, p: &Program) -> Result<Event, AllocError>
-    ensures { IfOk result (λ e. IsBlank (length p.now.fields.items) e.task e.fields) }
-{
-    let fields = Cell::new(alloc, p.fields.len())?;
-    Ok(Event {
-        task: TaskPath::entry(),
-        number: 0,
-        at: 0,
-        fields,
-    })
-}
-
-/// What halts the task where no unit is left.
-fn last_halt(c: &Config<'_>) -> Halt
-    ensures { HaltsAtLast (config_of c.now) result }
-{
-    if c.has_ended() {
-        Halt::Ended
-    } else {
-        Halt::Spent
-    }
-}
-
-/// One event of the entry's task, or why there is none.
-fn turn<'p>(p: &'p Program, c: &mut Config<'p>, e: &Event) -> Result<Option<Halt>, AllocError>
-    requires alone { IsAlone (program_of p.now) e.now.number (config_of c.old) }
-    requires blank { IsBlank (length p.now.fields.items) e.now.task e.now.fields }
-    requires cell { e.now.at ≡ e.now.number }
-    requires wide { IsWide (program_of p.now) c.old }
-    ensures wide { IsWide (program_of p.now) c.new }
-    ensures halts { IfOk result (λ halt. IfSome halt
-        (Halts (program_of p.now) e.now.number (config_of c.old) (config_of c.new))) }
-    ensures moves { IfOk result (λ halt. halt ≡ None
-        → GoesOn (program_of p.now) e.now.number (config_of c.old) (config_of c.new)) }
-{
-    if c.has_ended() {
-        return Ok(Some(Halt::Ended));
-    }
-    answers_are_exclusive();
-    refused_events_do_not_step();
-    match step(p, c, e)? {
-        Stepped::Moved => Ok(None),
-        Stepped::Waiting(r) => Ok(Some(Halt::Waiting(r))),
-        _ => unreachable!(),
-    }
+    let _path = task.path();
+    let (part, contents, closed) = task.close(p, regions);
+    let (finish, log) = finish(alloc, &p.program, f, part, contents)?;
+    Ok((finish, closed, log))
 }

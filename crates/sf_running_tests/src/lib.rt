@@ -1,5 +1,5 @@
-//! Tests of the outside, of heaps, of states' texts, of the machine that runs and of runs of one
-//! task, by the public calls of their crates, and laws that join these crates. They are in a crate
+//! Tests of the outside, of heaps, of states' texts, of the machine that runs and of runs, by the
+//! public calls of their crates, and laws that join these crates. They are in a crate
 //! of their own so that the crates that they test needn't be proved once more with them.
 //!
 //! - `laws`: that what is written of a proof or of a run of a file's program is read back.
@@ -9,7 +9,7 @@
 //! - `texts`: what the lines of a state's text give, or why not, and the text of a state.
 //! - `states`: starts, why there is none, and what is written.
 //! - `running`: programs, event by event.
-//! - `runs`: runs of one task.
+//! - `runs`: runs, of one task and of several.
 #![tactic(auto)]
 
 #[cfg(test)]

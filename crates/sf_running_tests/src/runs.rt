@@ -1,4 +1,5 @@
-//! Runs of one task. What they end with, and how many events they have, is worked out by hand.
+//! Runs. What they end with, and how many events they have, is worked out by hand, and doesn't
+//! depend on which task goes first.
 
 ghost use Rattle.std.specs.Prelude.{◌≡◌, ◌≤◌, ◌<◌, IfOk, IfSome, IsTrue, length, true};
 ghost use Rattle.sf_base.specs.declared.limits.TheConstants.{STEPS as MOST_STEPS, WAITS as MOST_WAITS};
@@ -19,15 +20,16 @@ use sf_run::{Budget, Stop, is_init_sequential, is_sequential, run};
 use sf_search::verify;
 use sf_state::write;
 use std::alloc::{AllocError, Global};
+use std::process::Abort;
 use std::test::Fail;
 use std::thread::Threads;
 
 /// Why a run stops. A task is told by how many turns its path has.
-fn told(alloc: Global, stop: &Stop) -> Result<Vec<u8>, AllocError> {
+fn told(alloc: Global, stop: &Stop<'_>) -> Result<Vec<u8>, AllocError> {
     let line = match stop {
         Stop::Steps(task, used) => format!(in alloc; "steps {} {}", task.len(), *used)?,
-        Stop::Waits(task, r, tries) => {
-            format!(in alloc; "waits {} {} {}", task.len(), r.0, *tries)?
+        Stop::Waits(task, r, misses) => {
+            format!(in alloc; "waits {} {} {}", task.len(), r.0, misses.count())?
         }
         Stop::OutOfMemory => return Err(AllocError),
     };
@@ -66,15 +68,13 @@ fn run_text<R: Threads + Sync>(
     requires within { entered.f.0 < length p.now.program.procedures.items }
     requires starts { StartsWith (program_of p.now.program) entered.f entered.start.fresh
         entered.start.vars entered.start.heap entered.start.parts.items }
-    requires sequential { IsSequentialStart (program_of p.now.program) entered.f
-        entered.start.fresh }
     requires steps { (1 ≤ budget.steps) × (budget.steps ≤ MOST_STEPS) }
     requires waits { (1 ≤ budget.waits) × (budget.waits ≤ MOST_WAITS) }
 {
     let gate = OpenGate;
     let Entered { f, start } = entered;
     match run(rt, alloc, proof, f, start, budget, &gate) {
-        Ok(finish) => write(alloc, p, f, &finish),
+        Ok((finish, _)) => write(alloc, p, f, &finish),
         Err(stop) => told(alloc, &stop),
     }
 }
@@ -96,14 +96,13 @@ fn is_alone(alloc: Global, p: &Program, f: ProcId, fresh: bool) -> Result<bool, 
 /// A run: its procedure, the text of its start, and its budget.
 type Row<'a> = (&'a str, &'a [u8], Budget);
 
-/// What the run answers, of a procedure from which no parallel call can be reached, in a program
-/// that is proved.
+/// Whether no parallel call can be reached, and what the run answers, in a program that is proved.
 fn answer<R: Threads + Sync>(
     rt: &R,
     alloc: Global,
     p: &Arranged,
     row: Row<'_>,
-) -> Result<Option<Vec<u8>>, AllocError> {
+) -> Result<Option<(bool, Vec<u8>)>, AllocError> {
     let (name, text, budget) = row;
     let Some(proof) = proof_of(alloc, p) else {
         return Ok(None);
@@ -114,11 +113,24 @@ fn answer<R: Threads + Sync>(
     if !is_within(budget) {
         return Ok(None);
     }
-    if !is_alone(alloc, &p.program, entered.f, entered.start.fresh)? {
-        return Ok(None);
-    }
+    let alone = is_alone(alloc, &p.program, entered.f, entered.start.fresh)?;
     let text = run_text(rt, alloc, p, &proof, entered, budget)?;
-    Ok(Some(text))
+    Ok(Some((alone, text)))
+}
+
+/// The run answers that, of a program of which that is told.
+fn is_answered<R: Threads + Sync + Abort>(
+    rt: &R,
+    alloc: Global,
+    file: &[u8],
+    row: Row<'_>,
+    expected: (bool, &[u8]),
+) -> Result<(), Fail> {
+    let p = fitted(alloc, file).expect(rt, "a program");
+    let (alone, said) = answer(rt, alloc, &p, row)?.expect(rt, "an answer");
+    assert!(rt; alone == expected.0);
+    assert!(rt; said.as_slice() == expected.1);
+    Ok(())
 }
 
 /// So many events and tries.
@@ -141,6 +153,17 @@ const SET_UP: &[u8] = b"
     } [x|->]
     init() { local y; y = new(); y->tl = f; f = y; }";
 
+/// A tree is given up, the subtrees at once; and a procedure that sets resources up forks.
+const FORKING: &[u8] = b"
+    resource r (v) []
+    fell(p) [tree(p)] {
+      local i, j;
+      if (p != nil) { i = p->l; j = p->r; fell(i) || fell(j); dispose(p); }
+    }
+    none() { }
+    set(x;) { x = 1; }
+    init() { none() || none(); }";
+
 #[test]
 fn runs_answer_what_comes_of_their_starts(rt: HostRuntime) -> Result<(), Fail> {
     let two = b"two(x;) { x = nil; x = 1; }";
@@ -152,6 +175,7 @@ i = @1
 ";
     let made = b"x = @3\nmm.f = nil\n@3 hd=nil tl=nil l=nil r=nil\n";
     let given = b"x = @1\nmm.f = nil\n@1 hd=nil tl=nil l=nil r=nil\n";
+    let tree = b"p = @1\nr.v = 5\n@1 l=@2 r=@3\n@2\n@3";
     let cases: [(&[u8], Row<'_>, &[u8]); 9] = [
         (two, ("two", b"x = nil", budget(1, 1)), b"steps 0 1"),
         (two, ("two", b"x = nil", budget(2, 1)), b"x = 1\n"),
@@ -173,9 +197,24 @@ i = @1
     ];
     let alloc = rt.alloc();
     for (file, row, text) in cases {
-        let p = fitted(alloc, file).expect(&rt, "a program");
-        let said = answer(&rt, alloc, &p, row)?.expect(&rt, "an answer");
-        assert!(rt; said.as_slice() == text);
+        is_answered(&rt, alloc, file, row, (true, text))?;
+    }
+    let forking: [(Row<'_>, (bool, &[u8])); 6] = [
+        (("fell", tree, budget(28, 1)), (false, b"p = @1\nr.v = 5\n")),
+        (("fell", tree, budget(27, 1)), (false, b"steps 0 27")),
+        (("fell", tree, budget(25, 1)), (false, b"steps 1 10")),
+        (("set", b"x = nil", budget(5, 1)), (false, b"steps 0 5")),
+        (
+            ("set", b"x = nil", budget(6, 1)),
+            (false, b"x = 1\nr.v = nil\n"),
+        ),
+        (
+            ("set", b"x = nil\nr.v = 5", budget(1, 1)),
+            (true, b"x = 1\nr.v = 5\n"),
+        ),
+    ];
+    for (row, answer) in forking {
+        is_answered(&rt, alloc, FORKING, row, answer)?;
     }
     Ok(())
 }

@@ -1,11 +1,18 @@
 -- Laws of answers, stated.
 -- A definition by cases owes its reader that one case holds and no two do; an answer of status 0
 -- promises that the program is sound.
-use Rattle.std.specs.Prelude.{◌≡◌, ◌≢◌, ℕ, List, Option, Some}
-use Rattle.sf_core.specs.Program.Syntax.{Program}
+use Rattle.std.specs.Prelude.{◌≡◌, ◌≢◌, ◌⊎◌, ℕ, Bool, List, Option, Some}
+use Rattle.sf_base.specs.declared.ids.ProcId.{ProcId}
+use Rattle.sf_core.specs.Machine.Step.{procedure_at}
+use Rattle.sf_core.specs.Program.Syntax.{Procedure, Program}
+use Rattle.sf_foot.specs.declared.vars.Vars.{Vars}
+use Rattle.sf_heap.specs.Cells.{Cells}
 use Rattle.sf_io.specs.Shelf.{Files}
 use Rattle.sf_rules.specs.Proving.{Proves}
 use Rattle.sf_rules.specs.Setting.{IsSettingOf, Setting}
+use Rattle.sf_run.specs.Sequential.{IsSequentialStart}
+use Rattle.sf_state.specs.Entering.{IsEntry}
+use Rattle.sf_state.specs.Starts.{IsStartText}
 use Rattle.sf_sym.specs.declared.tag.Tag.{Tag}
 use Rattle.sf_cli.specs.Answer.{AcceptedBytes, Answer, DemoAnswer, EndedRun, FileAnswer, Names, OrderAnswer, RunAnswer, RankingFileAnswer, WitnessFileAnswer}
 use Rattle.sf_cli.specs.Replayed.{EnteredAnswer, ReplayAnswer}
@@ -14,7 +21,7 @@ use Rattle.sf_cli.specs.FileFault.{Admits, FileFault}
 use Rattle.sf_cli.specs.declared.refusal.Refusal.{Refusal}
 use Rattle.sf_cli.specs.Rechecked.{ProofAnswer}
 use Rattle.sf_cli.specs.Reads.{Reads}
-use Rattle.sf_words.specs.Words.{Text, order_of, run}
+use Rattle.sf_words.specs.Words.{Text, Order, order_of, run}
 
 -- bytes read as at most one program
 abbrev pub EachFileIsOneProgram : Type 0
@@ -51,18 +58,32 @@ EachProofHasAnAnswer =
     (bytes : Text) (p : Program) → Admits bytes p → (proof : Text)
     → (text : Text) × (status : ℕ) × ProofAnswer p proof text status
 
--- a run of a file's program has at most one answer over the same files
+-- where a file of these bytes has a program, that name is an entry's and that text a start of it, no parallel call can be
+-- reached from there
+abbrev pub RunsAlone : (bytes entry given : Text) → Type 0
+RunsAlone bytes entry given =
+    (p : Program) (f : ProcId) (g : Procedure) (vars : Vars) (heap : Cells) (parts : List (List ℕ)) (unit : ℕ)
+    (fresh : Bool) → Admits bytes p → IsEntry p entry f → procedure_at p f ≡ Some g
+    → IsStartText p f g given vars heap parts unit fresh → IsSequentialStart p f fresh
+
+-- the status is one of what comes of a run's tasks
+abbrev pub IsOfTasks : (status : ℕ) → Type 0
+IsOfTasks status = (status ≡ 0) ⊎ (status ≡ 6)
+
+-- a run of a file's program has at most one answer over the same files, where one is not of its tasks, or no parallel
+-- call can be reached
 abbrev pub EachRunHasOneAnswer : Type 0
 EachRunHasOneAnswer =
     (files : Files) (bytes entry state_name text other : Text) (steps waits status code : ℕ)
+    → (IsOfTasks status → (given : Text) → files state_name ≡ Some given → RunsAlone bytes entry given)
     → RunAnswer (Some files) bytes entry state_name steps waits text status
     → RunAnswer (Some files) bytes entry state_name steps waits other code → (text ≡ other) × (status ≡ code)
 
--- it has an answer, where the state's file is there
+-- it has an answer, where the state's file is there and no parallel call can be reached
 abbrev pub EachRunHasAnAnswer : Type 0
 EachRunHasAnAnswer =
     (files : Files) (bytes entry state_name given : Text) (steps waits : ℕ) → files state_name ≡ Some given
-    → (text : Text) × (status : ℕ) × RunAnswer (Some files) bytes entry state_name steps waits text status
+    → RunsAlone bytes entry given → (text : Text) × (status : ℕ) × RunAnswer (Some files) bytes entry state_name steps waits text status
 
 -- `demo` has at most one answer
 abbrev pub EachDemoHasOneAnswer : Type 0
@@ -122,16 +143,23 @@ AcceptedFilesAreReplayedSafely =
     (told : Option Files) (bytes shown entry state_name schedule_name text : Text) (status : ℕ)
     → FileAnswer bytes shown 0 → ReplayAnswer told bytes entry state_name schedule_name text status → status ≢ 10
 
--- words have at most one answer over the same files
+-- if the order is a run, no parallel call can be reached in it
+abbrev pub IsAlone : Files → Option Order → Type 0
+IsAlone files (Some (run file entry state steps waits)) =
+    (bytes given : Text) → files file ≡ Some bytes → files state ≡ Some given → RunsAlone bytes entry given
+IsAlone files _ = Unit {0}
+
+-- words have at most one answer over the same files, but for what comes of runs in which a parallel call can be reached
 abbrev pub EachCommandHasOneAnswer : Type 0
 EachCommandHasOneAnswer =
     (files : Files) (words : List Text) (text other : Text) (status code : ℕ)
+    → (IsOfTasks status → IsAlone files (order_of words))
     → Answer files words text status → Answer files words other code → (text ≡ other) × (status ≡ code)
 
--- words have an answer over files, where the files that they name are there
+-- words have an answer over files, where the files that they name are there, but for such runs
 abbrev pub EachCommandHasAnAnswer : Type 0
 EachCommandHasAnAnswer =
-    (files : Files) (words : List Text)
+    (files : Files) (words : List Text) → IsAlone files (order_of words)
     → ((name : Text) → Names (order_of words) name → (bytes : Text) × (files name ≡ Some bytes))
     → (text : Text) × (status : ℕ) × Answer files words text status
 

@@ -17,7 +17,7 @@ const OF_STATE: usize = 67_108_865;
 const OF_SCHEDULE: usize = 67_108_865;
 
 /// Words, and what they ask for.
-const REQUESTS: [(&[&str], &[(&str, usize)]); 26] = [
+const REQUESTS: [(&[&str], &[(&str, usize)]); 27] = [
     (&[], &[]),
     (&["verify"], &[]),
     (&["demo", "2"], &[]),
@@ -41,6 +41,10 @@ const REQUESTS: [(&[&str], &[(&str, usize)]); 26] = [
     (
         &["run", "two.sf", "two", "none"],
         &[("two.sf", OF_FILE), ("none", OF_STATE)],
+    ),
+    (
+        &["run", "tree.sf", "disp_tree", "given"],
+        &[("tree.sf", OF_FILE), ("given", OF_STATE)],
     ),
     (&["run", "none.sf", "two", "given"], &[("none.sf", OF_FILE)]),
     (&["run", "bad.sf", "f", "given"], &[("bad.sf", OF_FILE)]),

@@ -3,6 +3,7 @@
 
 pub mod buffer;
 pub mod chain;
+pub mod copy;
 pub mod forking;
 pub mod free;
 pub mod fresh;
@@ -19,7 +20,7 @@ pub mod two;
 pub mod vacuous;
 
 /// What is on the shelf: names and texts.
-pub const FILES: [(&str, &str); 18] = [
+pub const FILES: [(&str, &str); 20] = [
     ("set.sf", set::FILE),
     ("tree.sf", tree::FILE),
     ("leak.sf", leak::FILE),
@@ -28,6 +29,8 @@ pub const FILES: [(&str, &str); 18] = [
     ("mi3.sf", mi::WRONG),
     ("fork.sf", forking::FILE),
     ("buf.sf", buffer::FILE),
+    ("pair.sf", buffer::PAIR),
+    ("copy.sf", copy::FILE),
     ("late.sf", late::FILE),
     ("rev.sf", reverse::FILE),
     ("cat.sf", chain::FILE),

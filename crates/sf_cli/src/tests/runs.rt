@@ -126,7 +126,7 @@ const OUTCOMES: [(&[&str], &str, &str, u8); 18] = [
 ];
 
 /// Why there is no start.
-const NO_STARTS: [(&[&str], &str, &str, u8); 19] = [
+const NO_STARTS: [(&[&str], &str, &str, u8); 17] = [
     (
         &["run", "two.sf", "two", "given"],
         "x = nil\n@7\n",
@@ -224,18 +224,6 @@ const NO_STARTS: [(&[&str], &str, &str, u8); 19] = [
         5,
     ),
     (
-        &["run", "fork.sf", "e", "given"],
-        "x = nil\n@1\n",
-        "start refused: 75 LeftOver @1\n",
-        5,
-    ),
-    (
-        &["run", "fork.sf", "e", "given"],
-        "x = nil\n",
-        "file refused: 27 NotBuilt at 1:1\n",
-        3,
-    ),
-    (
         &["run", "free.sf", "f", "given"],
         "x = nil\na.v = nil\n",
         "start refused: 76 FreeEntry f\n",
@@ -255,8 +243,8 @@ const WITHOUT_STATE: [(&[&str], &str, &str, u8); 11] = [
     (
         &["run", "tree.sf", "disp_tree", "none"],
         "",
-        "file refused: 27 NotBuilt at 1:1\n",
-        3,
+        "read fault: none\n",
+        7,
     ),
     (
         &["run", "tree.sf", "other", "none"],

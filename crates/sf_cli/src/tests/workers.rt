@@ -2,10 +2,9 @@
 
 use super::compared::{FAILED, PROVED};
 use super::files::mm;
-use super::{says, shelf_with, status_of, text_of};
-use crate::top::smallfoot;
+use super::{says, says_at, shelf_with, status_of};
 use sf_base::ProcId;
-use sf_io::{MemShelf, MemSink, Point, TurnGate};
+use sf_io::{MemShelf, Point, TurnGate};
 use std::alloc::Global;
 use std::test::Fail;
 
@@ -35,12 +34,8 @@ fn two_workers_search_side_by_side(rt: HostRuntime) -> Result<(), Fail> {
     let alloc = rt.alloc();
     let gate = gate_of_two(alloc)?;
     let mut shelf = shelf_with(alloc, "")?;
-    let mut sink = MemSink::new(alloc, usize::MAX);
     let words = ["verify", "mm.sf", "--workers", "2"];
-    let status = smallfoot(&rt, alloc, &words, &mut shelf, &mut sink, &gate);
-    let out = String::from_utf8_lossy(alloc, sink.bytes())?;
-    assert_eq!(rt; out.as_str(), text_of(alloc, mm::PROOF)?.as_str());
-    assert_eq!(rt; status, 0);
+    says_at(&rt, alloc, &words, &mut shelf, (mm::PROOF, 0), &gate)?;
     let [one, other] = points_of(1);
     assert!(rt; gate.passes(&one) > 0 || gate.passes(&other) > 0);
     assert!(rt; gate.turns_left() > 0);

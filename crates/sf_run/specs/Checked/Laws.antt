@@ -3,7 +3,7 @@
 -- Hoare, "An Axiomatic Basis for Computer Programming" (1969): sequential programs; Wright and
 -- Felleisen, "A Syntactic Approach to Type Soundness" (1994): each configuration has ended, or goes
 -- on.
-use Rattle.std.specs.Prelude.{◌≡◌, ◌⊎◌, ℕ, suc, Bool, List, [], None, map}
+use Rattle.std.specs.Prelude.{◌≡◌, ◌⊎◌, ℕ, suc, Bool, List, [], ◌∷◌, None, map}
 use Rattle.sf_base.specs.declared.ids.ProcId.{ProcId}
 use Rattle.sf_base.specs.declared.ids.ResId.{ResId}
 use Rattle.sf_base.specs.HeapStore.{Heap, Store}
@@ -11,12 +11,13 @@ use Rattle.sf_core.specs.Machine.Alone.{Outcome, finished, spent, waiting, Waits
 use Rattle.sf_core.specs.Machine.Config.{Config}
 use Rattle.sf_core.specs.Machine.Enabled.{HasEnded}
 use Rattle.sf_core.specs.Machine.Good.{Good}
-use Rattle.sf_core.specs.Machine.Numbered.{Numbered}
+use Rattle.sf_core.specs.Machine.Numbered.{Numbered, NumberedFrom}
 use Rattle.sf_core.specs.Machine.Reach.{Reach}
 use Rattle.sf_core.specs.Machine.SpentSteps.{SpentSteps}
 use Rattle.sf_core.specs.Machine.SpentWaits.{IsAtRegion, SpentWaits}
 use Rattle.sf_core.specs.Machine.Start.{Start}
 use Rattle.sf_core.specs.Machine.Step.{Event, Step}
+use Rattle.sf_core.specs.Machine.Supplies.{has, units}
 use Rattle.sf_core.specs.Program.Formed.{IsFormed}
 use Rattle.sf_core.specs.Program.Syntax.{Program}
 use Rattle.sf_calls.specs.FirstBreach.{Conditions}
@@ -26,7 +27,7 @@ use Rattle.sf_heap.specs.Cells.{Cells, heap_of}
 use Rattle.sf_machine.specs.Beginning.{Begins}
 use Rattle.sf_machine.specs.Ending.{Ends}
 use Rattle.sf_run.specs.Checked.Lone.{IsLone, IsFreeFrom, IsBase}
-use Rattle.sf_run.specs.Running.{ComesTo}
+use Rattle.sf_run.specs.Running.{ComesTo, IsNumberedEnd}
 use Rattle.sf_run.specs.Sequential.{BeginsSequentially, InitIsSequential, IsSequential, IsSequentialStart}
 use Rattle.sf_core.specs.Machine.Sound.{IsSound}
 
@@ -119,12 +120,6 @@ unfoldable pub NumberedRunsReach : Type 0
 NumberedRunsReach = (p : Program) (start c : Config) (base count : ℕ) (events : List Event)
     → Numbered p start base count events c → Reach p start events c
 
--- a numbered list of events leads there from the start, and there the entry has ended
-pub record IsNumberedEnd (p : Program) (start : Config) (base count : ℕ) (c : Config) : Type 0 where
-  pub events : List Event
-  pub numbered : Numbered p start base count events c
-  pub ended : HasEnded [] c.tasks
-
 -- a procedure begins in one configuration at most, fresh or not
 unfoldable pub BeginningsAreUnique : Type 0
 BeginningsAreUnique = (p : Program) (f : ProcId) (is_fresh : Bool) (vars : Vars) (heap : Cells) (c d : Config)
@@ -135,6 +130,31 @@ unfoldable pub EndsAreNumbered : Type 0
 EndsAreNumbered = (p : Program) (f : ProcId) (is_fresh : Bool) (vars : Vars) (heap : Cells) (parts : List (List ℕ))
     (start c : Config) (base count : ℕ) → IsSequentialStart p f is_fresh → StartsWith p f is_fresh vars heap parts
     → Begins p f is_fresh vars heap start → Alone p start base count (finished c) → IsNumberedEnd p start base count c
+
+-- and the other way round: where a numbered list of events leads to a configuration in which the
+-- entry has ended, that is what comes of the run
+unfoldable pub NumberedEndsComeAlone : Type 0
+NumberedEndsComeAlone = (p : Program) (f : ProcId) (is_fresh : Bool) (vars : Vars) (heap : Cells)
+    (parts : List (List ℕ)) (start c : Config) (base count : ℕ) → IsSequentialStart p f is_fresh
+    → StartsWith p f is_fresh vars heap parts → Begins p f is_fresh vars heap start
+    → IsNumberedEnd p start base count c → Alone p start base count (finished c)
+
+-- where the entry's task has used all units that it was given, and would go on, that is
+unfoldable pub SpentStepsComeAlone : Type 0
+SpentStepsComeAlone = (p : Program) (f : ProcId) (is_fresh : Bool) (vars : Vars) (heap : Cells)
+    (parts : List (List ℕ)) (start : Config) (base count used : ℕ) → IsSequentialStart p f is_fresh
+    → StartsWith p f is_fresh vars heap parts → Begins p f is_fresh vars heap start
+    → SpentSteps p start base count [] used → (used ≡ count) × Alone p start base count spent
+
+-- where a numbered list leads to a configuration in which it is at a region whose condition is
+-- false, and leaves it a unit, that is
+unfoldable pub WaitsComeAlone : Type 0
+WaitsComeAlone = (p : Program) (f : ProcId) (is_fresh : Bool) (vars : Vars) (heap : Cells)
+    (parts : List (List ℕ)) (start c : Config) (base count : ℕ) (events : List Event) (unit : ℕ)
+    (left : List ℕ) (r : ResId) → IsSequentialStart p f is_fresh
+    → StartsWith p f is_fresh vars heap parts → Begins p f is_fresh vars heap start
+    → NumberedFrom p start (has (units base count)) events c (has (unit ∷ left))
+    → (HasEnded [] c.tasks → ⊥) → WaitsAlone c r → Alone p start base count (waiting r)
 
 -- where it has used its units, it was given so many, had as many events, and would go on
 unfoldable pub SpentRunsHaveUsedAll : Type 0

@@ -1,4 +1,4 @@
-use Rattle.std.proofs.Common.{◌≡◌, ◌∙◌, ◌++◌, ℕ, List, ap, codes, decimal}
+use Rattle.std.proofs.Common.{◌∙◌, ◌++◌, ℕ, List, ap, codes, decimal}
 use Rattle.std.proofs.lemmas.List.{append_assoc}
 use Rattle.sf_cli.specs.DemoText.{count_text}
 use Rattle.sf_cli.proofs.demo.put_size.Goals as goal

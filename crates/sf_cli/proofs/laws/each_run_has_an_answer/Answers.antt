@@ -9,11 +9,13 @@ returns c = some-run (record {
   prove = c.taken_tags_prove.ensures;
   sound = c.proofs_are_sound.ensures;
   entries = c.entry_exists.ensures;
-  decided = c.sequential_is_decided.ensures;
-  inits = c.init_sequential_is_decided.ensures;
   starts = c.start_exists.ensures;
   outcomes = c.starts_have_one_outcome.ensures;
   beginnings = c.beginnings_are_starts.ensures;
+  one = c.beginnings_are_unique.ensures;
+  ends = c.ends_are_numbered.ensures;
+  spendings = c.spent_runs_have_used_all.ensures;
+  tries = c.waiting_runs_try_in_vain.ensures;
   bases = c.bases_are_free.ensures;
   free = c.units_stay_free.ensures;
 })

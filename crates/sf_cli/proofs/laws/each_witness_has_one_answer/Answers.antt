@@ -1,4 +1,3 @@
-use Rattle.sf_cli.proofs.OneAnswer.{VerdictLayers}
 use Rattle.sf_cli.proofs.Witnesses.{witness-one}
 use Rattle.sf_cli.proofs.laws.each_witness_has_one_answer.Goals as goal
 

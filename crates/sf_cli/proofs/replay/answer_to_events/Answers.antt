@@ -1,4 +1,4 @@
-use Rattle.std.proofs.Common.{◌≡◌, ◌⊎◌, inl, inr, subst}
+use Rattle.std.proofs.Common.{◌≡◌, ◌⊎◌, subst}
 use Rattle.std.proofs.lemmas.Result.{IfOk-weaker}
 use Rattle.sf_core.specs.Program.ProgramView.{program_of}
 use Rattle.sf_replay.specs.declared.found.ReplayFault.{ReplayFault}

@@ -1,4 +1,4 @@
-use Rattle.std.proofs.Common.{◌≡◌, ◌≢◌, ◌⊎◌, inl, inr}
+use Rattle.std.proofs.Common.{inl, inr}
 use Rattle.sf_base.proofs.Results.{ok-both}
 use Rattle.sf_cli.specs.Replayed.{no_schedule}
 use Rattle.sf_cli.proofs.replay.answer_to_schedule.Goals as goal

@@ -1,4 +1,4 @@
-use Rattle.std.proofs.Common.{◌≡◌, ◌∙◌}
+use Rattle.std.proofs.Common.{◌≡◌}
 use Rattle.std.proofs.lemmas.Result.{IfOk-weaker}
 use Rattle.sf_base.proofs.Results.{ok-both}
 use Rattle.sf_core.specs.Program.ProgramView.{program_of}
@@ -6,7 +6,6 @@ use Rattle.sf_cli.proofs.ReplayReplies.{answering-five, replay-same}
 use Rattle.sf_cli.proofs.RunReplies.{entry-there, ran-refused, ran-started}
 use Rattle.sf_cli.specs.Checked.Stages.{says}
 use Rattle.sf_cli.specs.Replayed.{BegunAnswer, ComesByState, IsStartOf, ScheduleFileAnswer, begun, not_begun}
-use Rattle.sf_words.specs.Words.{Text}
 use Rattle.sf_cli.proofs.replay.replay_state.Goals as goal
 
 pub replay_start-requires : goal.replay_start-requires

@@ -21,16 +21,17 @@ returns-in-Ok g c =
     IfSome (slice_get (program_of a.program).procedures c.args.f.0) (λ h. SaysFinish (program_of a.program) h
     c.in-Ok.end.vars c.in-Ok.end.heap said.text.items said.status))) c.arranged-arranged.ensures c.say_finish.ensures in
     IfOk-weaker c.say_finish.result _ _
-    (λ said k. ran-finished (program_in c.args.proof.now) c.args.f c.args.start.fresh c.args.start.vars c.args.start.heap
-    c.args.start.unit c.args.budget.steps c.args.budget.waits c.in-Ok.end said.text.items said.status
-    (arranged_in c.args.proof.now).program.formed c.in-Ok.ensures.ends k) said
+    (λ said k. ran-finished c.beginnings_are_unique.ensures (program_in c.args.proof.now) c.args.f c.args.start.fresh
+    c.args.start.vars c.args.start.heap c.args.start.unit c.args.budget.steps c.args.budget.waits c.in-Ok.end
+    said.text.items said.status (arranged_in c.args.proof.now).program.formed c.in-Ok.ensures.ends
+    c.in-Ok.ensures.ends_alone k) said
 
-pub returns-in-Err : goal.returns-in-Err
-returns-in-Err g c =
+pub returns : goal.returns
+returns g c =
     let said = subst (λ (a : Arranged). IfOk c.say_stop.result (λ said.
     (said.text.items ≡ stop_text (program_of a.program) c.in-Err.stop) × (said.status ≡ 6)))
     c.arranged-arranged.ensures c.say_stop.ensures.said in
     ok-both c.say_stop.result _ _ _
-    (λ said s n. ran-stopped (program_in c.args.proof.now) c.args.f c.args.start.fresh c.args.start.vars c.args.start.heap
-    c.args.start.unit c.args.budget c.in-Err.stop said.text.items said.status c.in-Err.ensures.stops n s.0 s.1) said
-    c.say_stop.ensures.cause
+    (λ said s n. ran-stopped c.beginnings_are_unique.ensures (program_in c.args.proof.now) c.args.f c.args.start.fresh
+    c.args.start.vars c.args.start.heap c.args.start.unit c.args.budget c.in-Err.stop said.text.items said.status
+    c.in-Err.ensures.stops c.in-Err.ensures.stops_alone n s.0 s.1) said c.say_stop.ensures.cause

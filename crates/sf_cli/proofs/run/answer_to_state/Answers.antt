@@ -29,8 +29,8 @@ read-requires-clause-other g c =
     subst (λ (a : Arranged). sets_up (program_of a.program) c.args.f ≡ false) (sym c.arranged-arranged.ensures)
     c.requires.other
 
-pub answer_to_begin-requires-clause-starts : goal.answer_to_begin-requires-clause-starts
-answer_to_begin-requires-clause-starts g c = λ κs b.
+pub answer_to_start-requires-clause-starts : goal.answer_to_start-requires-clause-starts
+answer_to_start-requires-clause-starts g c = λ κs b.
     let p = program_in c.args.proof.now in
     let found = entry-there (arranged_in c.args.proof.now) c.args.f c.requires.there in
     let decides = subst (λ (a : Arranged). IfSome (slice_get (program_of a.program).procedures c.args.f.0)
@@ -45,10 +45,10 @@ returns-in-Ok g c =
     let decides = subst (λ (a : Arranged). IfSome (slice_get (program_of a.program).procedures c.args.f.0)
     (λ h. DecidesStart (program_of a.program) c.args.f h c.args.state.now (Ok c.in-Ok.start)))
     c.arranged-arranged.ensures c.in-Ok.ensures in
-    IfOk-weaker c.answer_to_begin.result _ _
+    IfOk-weaker c.answer_to_start.result _ _
     (λ said k. ran-answer p c.args.f found.0 c.args.state.now c.in-Ok.start c.args.budget.steps c.args.budget.waits
     said.text.items said.status found.1
-    (ran-started p c.args.f c.args.state.now c.in-Ok.start found.0 found.1 decides) k) c.answer_to_begin.ensures
+    (ran-started p c.args.f c.args.state.now c.in-Ok.start found.0 found.1 decides) k) c.answer_to_start.ensures
 
 pub returns-in-Err : goal.returns-in-Err
 returns-in-Err g c =

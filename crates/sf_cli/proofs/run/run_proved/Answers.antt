@@ -1,18 +1,58 @@
 use Rattle.std.proofs.Common.{◌≡◌, ◌<◌, ◌⊎◌, length, subst}
+use Rattle.std.proofs.lemmas.Result.{IfOk-weaker}
 use Rattle.sf_base.proofs.Results.{ok-both}
 use Rattle.sf_core.specs.Program.ProgramView.{program_of}
 use Rattle.sf_precise.specs.declared.arranged.Arranged.{Arranged}
 use Rattle.sf_run.specs.Running.{program_in}
-use Rattle.sf_state.specs.Entering.{IsEntryFault}
+use Rattle.sf_state.specs.Entering.{IsEntry, IsEntryFault}
 use Rattle.sf_state.specs.declared.fault.StartFault.TheVariants as fault
 use Rattle.sf_cli.proofs.RunReplies.{entry-refused}
-use Rattle.sf_cli.specs.Answer.{no_entry}
+use Rattle.sf_cli.specs.Answer.{IsRun, entered, no_entry}
 use Rattle.sf_cli.proofs.run.run_proved.Goals as goal
 
-pub run_entry-requires-clause-there : goal.run_entry-requires-clause-there
-run_entry-requires-clause-there g c = λ κs b.
+pub run_state_file-requires-clause-there : goal.run_state_file-requires-clause-there
+run_state_file-requires-clause-there g c = λ κs b.
     subst (λ (a : Arranged). c.in-Ok.f.0 < length a.program.procedures.items) c.arranged-arranged.ensures
     c.in-Ok.ensures.within
+
+pub run_state_file-requires-clause-free : goal.run_state_file-requires-clause-free
+run_state_file-requires-clause-free g c = λ κs b.
+    (subst (λ (a : Arranged). IsEntry (program_of a.program) c.args.words.now.procedure.now c.in-Ok.f)
+    c.arranged-arranged.ensures c.in-Ok.ensures.decides.found).free
+
+pub run_state_file-requires-clause-other : goal.run_state_file-requires-clause-other
+run_state_file-requires-clause-other g c = λ κs b.
+    (subst (λ (a : Arranged). IsEntry (program_of a.program) c.args.words.now.procedure.now c.in-Ok.f)
+    c.arranged-arranged.ensures c.in-Ok.ensures.decides.found).other
+
+pub returns-in-Ok-clause-answered : goal.returns-in-Ok-clause-answered
+returns-in-Ok-clause-answered g c =
+    let run : IsRun (program_in c.args.proof.now) c.args.words.now.procedure.now c.in-Ok.f = record {
+      proved = c.requires.proved;
+      is_entry = subst (λ (a : Arranged). IsEntry (program_of a.program) c.args.words.now.procedure.now c.in-Ok.f)
+          c.arranged-arranged.ensures c.in-Ok.ensures.decides.found;
+    } in
+    IfOk-weaker c.run_state_file.result _ _
+    (λ said k less. let (given, has, a) = k less in entered c.in-Ok.f given run has a) c.run_state_file.ensures.answered
+
+pub returns-in-Ok-clause-unread : goal.returns-in-Ok-clause-unread
+returns-in-Ok-clause-unread g c =
+    let run : IsRun (program_in c.args.proof.now) c.args.words.now.procedure.now c.in-Ok.f = record {
+      proved = c.requires.proved;
+      is_entry = subst (λ (a : Arranged). IsEntry (program_of a.program) c.args.words.now.procedure.now c.in-Ok.f)
+          c.arranged-arranged.ensures c.in-Ok.ensures.decides.found;
+    } in
+    IfOk-weaker c.run_state_file.result _ _
+    (λ said k seven. let u = k seven in ((c.in-Ok.f, run), u.0, u.1)) c.run_state_file.ensures.unread
+
+pub returns-in-Ok-clause-others : goal.returns-in-Ok-clause-others
+returns-in-Ok-clause-others g c = λ other h.
+    let run : IsRun (program_in c.args.proof.now) c.args.words.now.procedure.now c.in-Ok.f = record {
+      proved = c.requires.proved;
+      is_entry = subst (λ (a : Arranged). IsEntry (program_of a.program) c.args.words.now.procedure.now c.in-Ok.f)
+          c.arranged-arranged.ensures c.in-Ok.ensures.decides.found;
+    } in
+    c.run_state_file.ensures.others other (λ e. h (e, (c.in-Ok.f, run)))
 
 pub returns-in-Err-clause-answered : goal.returns-in-Err-clause-answered
 returns-in-Err-clause-answered g c =

@@ -1,4 +1,4 @@
-//! A procedure that is sequential, where the one that sets the resources up isn't.
+//! A procedure that makes no parallel call, where the one that sets the resources up makes one.
 
 /// The file.
 pub const FILE: &str = "resource r (v) []

@@ -2,16 +2,9 @@ use Rattle.std.proofs.Common.{subst, sym}
 use Rattle.sf_core.specs.Program.ProgramView.{program_of}
 use Rattle.sf_foot.specs.Starting.{StartsWith}
 use Rattle.sf_precise.specs.declared.arranged.Arranged.{Arranged}
-use Rattle.sf_run.specs.Sequential.{IsSequentialStart}
 use Rattle.sf_running_tests.proofs.runs.run_text.Goals as goal
 
 pub run-requires-clause-starts : goal.run-requires-clause-starts
 run-requires-clause-starts g c = λ κs b.
     subst (λ (a : Arranged). StartsWith (program_of a.program) c.args.entered.f c.args.entered.start.fresh
     c.args.entered.start.vars c.args.entered.start.heap c.args.entered.start.parts.items) (sym c.requires.proved) c.requires.starts
-
-pub run-requires-clause-sequential : goal.run-requires-clause-sequential
-run-requires-clause-sequential g c = λ κs b.
-    subst (λ (a : Arranged). IsSequentialStart (program_of a.program) c.args.entered.f
-    c.args.entered.start.fresh) (sym c.requires.proved)
-    c.requires.sequential
