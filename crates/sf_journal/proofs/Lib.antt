@@ -1,0 +1,13 @@
+pub mod Orders
+pub mod Exchanges
+pub mod Apart
+pub mod Children
+pub mod Neighbours
+pub mod Distinct
+pub mod Reorderings
+pub mod Told
+pub mod EntryOrder
+pub mod MergedLogs
+pub mod Sorting
+pub mod EntrySort
+pub mod Lines

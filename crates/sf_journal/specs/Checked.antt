@@ -1,0 +1,2 @@
+-- What is checked and need not be believed: laws.
+pub mod Laws

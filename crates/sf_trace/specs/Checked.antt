@@ -1,0 +1,3 @@
+-- What is checked and need not be believed: laws.
+-- One module for each.
+pub mod Laws
