@@ -31,13 +31,14 @@ use Rattle.sf_part.specs.Steps.{IsSettling}
 use Rattle.sf_part.specs.Supplied.{Supplied}
 use Rattle.sf_part.specs.Timed.{TimedPart, TimedContent, contents_of}
 use Rattle.sf_part.specs.Starts.{Starts}
-use Rattle.sf_setup.specs.Checked.Laws.{EventsAloneAreSteps, FirstPartsBeginFresh, FreshOrigin}
+use Rattle.sf_setup.specs.Checked.Laws.{EventsAloneAreSteps, FirstPartsBeginFresh, FreshOrigin, SettingUpIsTold}
 use Rattle.sf_setup.specs.Checked.Fresh.{BeginsFresh, Origin}
 use Rattle.sf_setup.specs.declared.stop.SetUpStop.{SetUpStop}
 use Rattle.sf_setup.specs.declared.stop.SetUpStop.TheVariants.{Steps, OutOfMemory}
 use Rattle.sf_setup.specs.Checked.SetUp.{HasSetUp, HasStopped, IsSetUp}
+use Rattle.sf_setup.specs.Checked.Told.{IsLogUpTo}
 use Rattle.sf_run.proofs.Beginnings.{begin-start}
-use Rattle.sf_run.proofs.Lists.{numbered-append}
+use Rattle.sf_run.proofs.Lists.{numbered-append, reach-append}
 use Rattle.sf_run.proofs.Tables.{all-so, all-unmap, contents-same}
 use Rattle.sf_run.specs.Checked.Opened.{IsPrepared, IsUnready, told_of}
 use Rattle.sf_run.specs.Running.{SetsUp}
@@ -109,14 +110,14 @@ module _ (whole_law : FirstPartsAreWhole) (alone : EventsAloneAreSteps) (settlin
 
 -- so the table begins with that
 module _ (whole_law : FirstPartsAreWhole) (alone : EventsAloneAreSteps) (settling : SettlingIsAStep)
-    (held : HeldAreOfTheProgram) (run : RunningPartsRun) (q : CodeProgram) (f : ProcId) (vars : Vars)
-    (heap : Cells) (parts : List (List ℕ)) (base count : ℕ)
+    (held : HeldAreOfTheProgram) (run : RunningPartsRun) (telling : SettingUpIsTold) (q : CodeProgram)
+    (f : ProcId) (vars : Vars) (heap : Cells) (parts : List (List ℕ)) (base count : ℕ)
     (s : StartsWith (program_of q) f true vars heap parts) (o : Origin) (a : TimedPart) (b : Part)
     (ks : List Content) (begins : BeginsFresh (program_of q) o a)
     (is : FreshOrigin (program_of q) f vars heap parts base count s o)
     (h : HasSetUp (program_of q) a (map content_of ks) (part_of b))
     (done : IsSetUp (program_of q) o (map content_of ks) (part_of b))
-    (of : IsPartOf (program_of q) b)
+    (kept : (part_of b).keeps ≡ a.keeps) (of : IsPartOf (program_of q) b)
     (is_in : AllByRecursion (λ (k : Content). IsContentIn (program_of q) k) ks) where
   abbrev formed : IsFormed (program_of q)
   formed = q.formed
@@ -141,6 +142,20 @@ module _ (whole_law : FirstPartsAreWhole) (alone : EventsAloneAreSteps) (settlin
       (subst (λ (z : ℕ × ℕ). NumberedFrom (program_of q) o.config (has (units z.0 z.1)) listed opened
       numbered.0) (λ i. (is.base_is i, is.count_is i)) numbered.1)
 
+  -- its log tells of them
+  fresh-told : (part_of b).keeps ≡ true
+      → IsLogUpTo (program_of q) s.config listed opened (part_of b).log (part_of b).clock
+  unfolding SettingUpIsTold
+  fresh-told on =
+      let first = fresh-events whole_law alone settling held run (program_of q) formed o a (part_of b)
+      (map content_of ks) begins h in
+      let last = fresh-return whole_law alone settling held run (program_of q) formed o a (part_of b)
+      (map content_of ks) begins h in
+      subst (λ z. IsLogUpTo (program_of q) z listed opened (part_of b).log (part_of b).clock) is.config
+      (telling (program_of q) formed o a (part_of b) (map content_of ks) opened begins h
+      (reach-append (program_of q) h.events (h.event ∷ []) o.config first.config opened first.reaches
+      last.reaches) (sym kept ∙ on))
+
   pub fresh-prepared : IsPrepared (program_of q) f true vars heap base count b ks
   fresh-prepared = record {
     of = of;
@@ -151,7 +166,6 @@ module _ (whole_law : FirstPartsAreWhole) (alone : EventsAloneAreSteps) (settlin
     past = done.past;
     within = let w = done.within in omega (arith, w);
     given = done.given ∙ is.count_is;
-    unlogged = λ e. absurd (true≢false e);
     each = sym (length-map ks content_of) ∙ done.each;
     in_order = done.in_order;
     is_in = is_in;
@@ -170,6 +184,7 @@ module _ (whole_law : FirstPartsAreWhole) (alone : EventsAloneAreSteps) (settlin
     set_up = λ e. subst (λ z. SetsUp (program_of q) z listed opened) is.config
         (fresh-sets_up whole_law alone settling held run (program_of q) formed o a (part_of b)
         (map content_of ks) begins h);
+    told = fresh-told;
     whole = subst (λ z. Whole ((part_of b).part ∷ []) z opened) (contents-same ks)
         (fresh-return whole_law alone settling held run (program_of q) formed o a (part_of b)
         (map content_of ks) begins h).whole;

@@ -21,3 +21,4 @@ pub mod Playing
 pub mod Alone
 pub mod Stops
 pub mod Fresh
+pub mod Logged

@@ -1,6 +1,6 @@
 -- What comes of the table of a run: numbered lists of events from the start, and what they lead to.
 -- Names: `play-LAW`; `receipt-LAW` of what misses stand for.
-use Rattle.std.specs.Prelude.{◌≡◌, ◌<◌, ℕ, zero, suc, Bool, true, false, List, [], ◌∷◌, ◌++◌, length, map, take, Some}
+use Rattle.std.specs.Prelude.{◌≡◌, ◌<◌, ℕ, zero, suc, Bool, true, List, [], ◌∷◌, ◌++◌, length, map, take, Some}
 use Rattle.std.proofs.Common.{sym, ap, ◌∙◌, refl, subst, arith}
 use Rattle.std.specs.List.{sum_by}
 use Rattle.std.proofs.lemmas.List.{length-map, take-map}
@@ -36,6 +36,7 @@ use Rattle.sf_region.specs.Waits.{Missed, Places, contents_in, first_of, opening
 use Rattle.sf_part.specs.declared.log.Log.{Log}
 use Rattle.sf_run.specs.Checked.Closed.{IsClosed}
 use Rattle.sf_run.specs.Checked.Gathered.{AreAll}
+use Rattle.sf_run.specs.Checked.LawsOfLogs.{TablesGoOnWithLogs}
 use Rattle.sf_run.specs.Checked.Opened.{IsOpened}
 use Rattle.sf_run.specs.Running.{IsFinish, IsLog, IsNumberedEnd, IsTable}
 use Rattle.sf_run.proofs.Lists.{numbered-append}
@@ -122,29 +123,23 @@ module _ (p : Program) (f : ProcId) (is_fresh : Bool) (vars : Vars) (heap : Cell
       ends = ends;
     }
 
-    -- where the start isn't fresh and a log is kept, it has the events of the table's list
-    pub play-log : is_fresh ≡ false → (first_of b).keeps ≡ true → (finish : Finish)
+    -- where a log is kept, it is of all events from the start on
+    pub play-log : TablesGoOnWithLogs → (first_of b).keeps ≡ true → (finish : Finish)
         → Ends p f play-history.config finish.vars finish.heap → (log : List Stamped) → log ≡ a.log
         → IsLog p f is_fresh vars heap base count finish log
-    unfolding play-finish play-end
-    play-log settled keeps finish ends log is = record {
+    unfolding play-finish play-end TablesGoOnWithLogs
+    play-log logs keeps finish ends log is = record {
       run = play-finish finish ends;
-      marks = done.marks;
-      are = sym (ap (λ z. z ++ events_of done.marks) (o.prepared.settled settled));
-      makes =
-          let same : o.prepared.opened ≡ o.prepared.start =
-          (subst (λ z. NumberedFrom p o.prepared.start (has (units base count)) z o.prepared.opened
-          o.prepared.supply) (o.prepared.settled settled) o.prepared.run).0 in
-          subst (λ z. Makes p z done.marks play-history.config) same
+      is = logs p o.prepared.events done.marks o.prepared.start o.prepared.opened play-history.config
+          (first_of b).log log (first_of b).clock (o.prepared.told keeps)
           (subst (λ z. Makes z o.prepared.opened done.marks play-history.config) o.program
-          play-history.makes);
-      entries = λ weigh.
+          play-history.makes)
+          (done.stamps).rising (done.stamps).late
+          (λ weigh.
           let all = (done.stamps).logs keeps weigh in
           let one = sum_by-cons (λ (q : TimedPart). sum_by weigh q.log) a [] in
-          let none = ap (sum_by weigh) (o.prepared.unlogged settled) in
           let own = ap (sum_by weigh) is in
-          omega arith;
-      rising = (done.stamps).rising;
+          omega arith);
     }
 
     -- and there is one content for each resource
@@ -200,16 +195,16 @@ play-closed law p f is_fresh vars heap base count b also o a finish log same clo
     entry).config
     (play-whole p f is_fresh vars heap base count b o law a k.contents k.finished ended entry))
 
--- and the log is that of the run, where the start isn't fresh
-pub play-logged : RunningPartsRun → (p : Program) (f : ProcId) (is_fresh : Bool) (vars : Vars)
+-- and the log is that of the run
+pub play-logged : RunningPartsRun → TablesGoOnWithLogs → (p : Program) (f : ProcId) (is_fresh : Bool) (vars : Vars)
     (heap : Cells) (base count : ℕ) (b also : Begun) → IsOpened p f is_fresh vars heap base count b
     → (a : TimedPart) (finish : Finish) (log : Log) → also ≡ b → IsClosed p f also a finish log
-    → Answers p a Done → a.part.task ≡ [] → is_fresh ≡ false → (first_of b).keeps ≡ true
+    → Answers p a Done → a.part.task ≡ [] → (first_of b).keeps ≡ true
     → IsLog p f is_fresh vars heap base count finish (map log_entry log.entries.items)
-play-logged law p f is_fresh vars heap base count b also o a finish log same closed ended entry settled
+play-logged law logs p f is_fresh vars heap base count b also o a finish log same closed ended entry
     keeps =
     let k : IsClosed p f b a finish log = subst (λ z. IsClosed p f z a finish log) same closed in
-    play-log p f is_fresh vars heap base count b o law a k.contents k.finished ended entry settled keeps
+    play-log p f is_fresh vars heap base count b o law a k.contents k.finished ended entry logs keeps
     finish
     (k.ends (play-history p f is_fresh vars heap base count b o law a k.contents k.finished ended
     entry).config

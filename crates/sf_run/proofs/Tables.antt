@@ -49,7 +49,9 @@ use Rattle.sf_region.specs.Meeting.{HasNoMisses}
 use Rattle.sf_region.specs.Rule.{MayBegin, opening_view}
 use Rattle.sf_region.specs.Waits.{contents_in}
 use Rattle.sf_safe.specs.Checked.LawsOfShares.{entry_of}
+use Rattle.sf_setup.specs.Checked.Told.{IsLogUpTo}
 use Rattle.sf_threads.specs.Checked.Running.{IsRunning}
+use Rattle.sf_trace.proofs.Logs.{log-none}
 use Rattle.sf_run.proofs.Beginnings.{begin-start, kind-one}
 use Rattle.sf_run.proofs.Numbering.{units-length}
 use Rattle.sf_run.specs.Checked.Opened.{IsOpened, IsPrepared}
@@ -197,6 +199,11 @@ module _ (whole_law : FirstPartsAreWhole) (safe_law : FirstPartsAreSafe) (q : Co
       (λ k e. omega (arith, e))
       (all-unmap content_of (λ (k : TimedContent). k.stamp ≡ 0) ks first.stamps)
 
+  -- nothing has happened yet
+  first-told : IsLogUpTo p s.config [] s.config (part_of a).log (part_of a).clock
+  first-told = subst (λ z. IsLogUpTo p s.config [] s.config z (part_of a).clock) (sym first.log)
+      (record { is = log-none p s.config; early = λ x h. absurd (contains-nil x h) })
+
   pub first-prepared : IsPrepared p f is_fresh vars heap base count a ks
   first-prepared = record {
     of = of;
@@ -209,7 +216,6 @@ module _ (whole_law : FirstPartsAreWhole) (safe_law : FirstPartsAreSafe) (q : Co
         (sets_up-is p f (s.starts).procedure (s.starts).there ∙ (s.starts).no_init) settled-here first;
     within = units-within base count (part_of a) first.supply few;
     given = first.given;
-    unlogged = λ e. first.log;
     each = sym (length-map ks content_of) ∙ (first.each ∙ ap (λ z. first_count z p) settled-here);
     in_order = first.in_order;
     is_in = is_in;
@@ -223,6 +229,7 @@ module _ (whole_law : FirstPartsAreWhole) (safe_law : FirstPartsAreSafe) (q : Co
     run = (refl, refl);
     settled = λ h. refl;
     set_up = λ h. absurd (true≢false (sym h ∙ not_fresh));
+    told = λ keeps. first-told;
     whole = first-whole.0;
     supplied = first-whole.1;
   }

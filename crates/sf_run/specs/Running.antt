@@ -1,8 +1,7 @@
 -- Running: what a run answers: what it ends with, or why it stops.
 -- O'Hearn (2007), Brookes (2007): an interleaving of tasks on one heap; Hoare (1969) where there is
 -- one task.
-use Rattle.std.specs.Prelude.{◌≡◌, ◌++◌, ℕ, Bool, true, false, List, [], ◌∷◌, map}
-use Rattle.std.specs.List.{sum_by}
+use Rattle.std.specs.Prelude.{◌≡◌, ◌++◌, ℕ, Bool, true, false, List, [], ◌∷◌}
 use Rattle.sf_base.specs.declared.ids.ProcId.{ProcId}
 use Rattle.sf_core.specs.Machine.Alone.{Outcome, finished, spent, waiting, Alone}
 use Rattle.sf_core.specs.Machine.Config.{Config}
@@ -24,12 +23,11 @@ use Rattle.sf_machine.specs.Ending.{Ends}
 use Rattle.sf_part.specs.Steps.{IsSettling}
 use Rattle.sf_part.specs.Timed.{Stamped}
 use Rattle.sf_region.specs.declared.views.Begun.{Begun}
-use Rattle.sf_region.specs.Marks.{Makes, Mark, events_of}
-use Rattle.sf_region.specs.Stamps.{Rising, entry_of}
 use Rattle.sf_region.specs.Waits.{BeganAt}
 use Rattle.sf_run.specs.declared.stop.Budget.{Budget}
 use Rattle.sf_threads.specs.declared.stop.Stop.{Stop}
 use Rattle.sf_threads.specs.declared.stop.Stop.TheVariants.{Steps, Waits, OutOfMemory}
+use Rattle.sf_trace.specs.Logs.{IsLogOf}
 
 -- the program that is proved
 abbrev pub program_in : Accepted → Program
@@ -51,16 +49,11 @@ pub record IsFinish (p : Program) (f : ProcId) (is_fresh : Bool) (vars : Vars) (
   pub run : IsNumberedEnd p start base count last
   pub ends : Ends p f last finish.vars finish.heap
 
--- IsLog: the log has just one entry for each event of the list by which the run has ended, however
--- entries are weighed, and of two events whose order counts the later has the greater stamp
+-- IsLog: the log is of the events by which the run has ended, from the start on
 pub record IsLog (p : Program) (f : ProcId) (is_fresh : Bool) (vars : Vars) (heap : Cells)
     (base count : ℕ) (finish : Finish) (log : List Stamped) : Type 0 where
   pub run : IsFinish p f is_fresh vars heap base count finish
-  pub marks : List Mark
-  pub are : events_of marks ≡ (run.run).events
-  pub makes : Makes p run.start marks run.last
-  pub entries : (weigh : Stamped → ℕ) → sum_by weigh log ≡ sum_by weigh (map entry_of marks)
-  pub rising : Rising marks
+  pub is : IsLogOf p run.start (run.run).events run.last log
 
 -- the last of the events is the return of the procedure that sets the resources up
 pub record SetsUp (p : Program) (start : Config) (events : List Event) (c : Config) : Type 0 where

@@ -2,6 +2,7 @@
 //!
 //! - `running`: the run (`run`, `run_kept`); `opening`: where its table begins; `finishing`: what it
 //!   ends with. `stop`: what a run may use.
+//! - `logging`: the log of a run, from its start on.
 //! - `laws`: what a run of one task comes to is one thing, comes of each proved program, and comes by
 //!   a numbered run. `sequential`: whether a parallel call can be reached.
 //!
@@ -11,6 +12,7 @@
 
 mod finishing;
 mod laws;
+mod logging;
 mod opening;
 mod running;
 mod sequential;

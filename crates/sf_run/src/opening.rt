@@ -19,7 +19,7 @@ use sf_part::whole::{held_are_of_the_program, running_parts_run};
 use sf_part::{Content, Part};
 use sf_precise::Arranged;
 use sf_region::{Regions, Task};
-use sf_setup::laws::{events_alone_are_steps, first_parts_begin_fresh};
+use sf_setup::laws::{events_alone_are_steps, first_parts_begin_fresh, setting_up_is_told};
 use sf_setup::{SetUpStop, set_up};
 use sf_threads::Stop;
 use std::alloc::{AllocError, Global};
@@ -46,7 +46,7 @@ pub(crate) fn open<'p, R: Threads + Sync, G: Gate>(
         start.heap start.unit steps t.0.1) }
     ensures running { IfOk result (λ t. IsRunning (program_of p.now.program) t.0 t.1) }
     ensures first { IfOk result (λ t. t.0.1.part ≡ t.1.1) }
-    ensures keeps { IfOk result (λ t. start.fresh ≡ false → (first_of t.0.1).keeps ≡ keep) }
+    ensures keeps { IfOk result (λ t. (first_of t.0.1).keeps ≡ keep) }
     ensures stops { IfErr result (IsUnready (program_of p.now.program) f start.fresh start.vars
         start.heap start.unit steps) }
 {
@@ -78,7 +78,7 @@ fn prepare<'p, R: Threads + Sync, G: Gate>(
     requires most { steps ≤ STEPS }
     ensures prepared { IfOk result (λ t. IsPrepared (program_of p.now.program) f start.fresh
         start.vars start.heap start.unit steps t.0 t.1.items) }
-    ensures keeps { IfOk result (λ t. start.fresh ≡ false → (part_of t.0).keeps ≡ keep) }
+    ensures keeps { IfOk result (λ t. (part_of t.0).keeps ≡ keep) }
     ensures stops { IfErr result (IsUnready (program_of p.now.program) f start.fresh start.vars
         start.heap start.unit steps) }
 {
@@ -135,6 +135,7 @@ fn prepare_fresh<'p, R: Threads + Sync, G: Gate>(
     requires most { steps ≤ STEPS }
     ensures prepared { IfOk result (λ t. IsPrepared (program_of p.now.program) f start.fresh
         start.vars start.heap start.unit steps t.0 t.1.items) }
+    ensures keeps { IfOk result (λ t. (part_of t.0).keeps ≡ keep) }
     ensures stops { IfErr result (IsUnready (program_of p.now.program) f start.fresh start.vars
         start.heap start.unit steps) }
 {
@@ -144,6 +145,7 @@ fn prepare_fresh<'p, R: Threads + Sync, G: Gate>(
     settling_is_a_step();
     held_are_of_the_program();
     running_parts_run();
+    setting_up_is_told();
     let (part, _none) = match Part::first(alloc, p, f, start, steps, keep) {
         Ok(first) => first,
         Err(_) => return Err(Stop::OutOfMemory),

@@ -1,6 +1,6 @@
 //! A run: its tasks, each with its part, at a table of resources.
 
-ghost use Rattle.std.specs.Prelude.{◌≡◌, ◌<◌, ◌≤◌, [], false, length, map, IfErr, IfOk, IsTrue};
+ghost use Rattle.std.specs.Prelude.{◌≡◌, ◌<◌, ◌≤◌, [], length, map, IfErr, IfOk, IsTrue};
 ghost use Rattle.sf_base.specs.declared.limits.TheConstants.{STEPS, WAITS};
 ghost use Rattle.sf_core.specs.Machine.Config.{Config};
 ghost use Rattle.sf_core.specs.Program.ProgramView.{program_of};
@@ -17,6 +17,7 @@ ghost use Rattle.sf_threads.specs.Checked.Running.{HasEnded, IsRunning};
 ghost use Rattle.sf_threads.specs.Stopping.{Says};
 
 use crate::finishing::finish;
+use crate::logging::tables_go_on_with_logs;
 use crate::opening::open;
 use crate::stop::Budget;
 use sf_base::ProcId;
@@ -78,9 +79,9 @@ pub fn run<'p, R: Threads + Sync, G: Gate>(
     }
 }
 
-/// The same run, with a log of its events where it is to keep one: from a start that isn't fresh it
-/// has just one entry for each event of the list by which the run has ended, and of two events whose
-/// order counts the later has the greater stamp.
+/// The same run, with a log of its events where it is to keep one: it has just one entry for each
+/// event of the list by which the run has ended, those of `init` among them where the start is fresh,
+/// and of two events whose order counts the later has the greater stamp.
 pub fn run_kept<'p, R: Threads + Sync, G: Gate>(
     rt: &R,
     alloc: Global,
@@ -107,9 +108,8 @@ pub fn run_kept<'p, R: Threads + Sync, G: Gate>(
     ensures stops_alone { IsSequentialStart (program_in proof.now) f start.fresh
         → IfErr result (Stops (program_in proof.now) f start.fresh start.vars start.heap start.unit
         budget) }
-    ensures log { IsTrue keep → start.fresh ≡ false → IfOk result (λ t. IsLog (program_in proof.now) f
-        start.fresh start.vars start.heap start.unit budget.steps t.0
-        (map entry_of t.2.entries.items)) }
+    ensures log { IsTrue keep → IfOk result (λ t. IsLog (program_in proof.now) f start.fresh
+        start.vars start.heap start.unit budget.steps t.0 (map entry_of t.2.entries.items)) }
 {
     let p = proved_program(proof);
     run_accepted(rt, alloc, p, f, start, budget, gate, keep)
@@ -158,13 +158,13 @@ fn run_accepted<'p, R: Threads + Sync, G: Gate>(
     ensures stops_alone { IsSequentialStart (program_of p.now.program) f start.fresh
         → IfErr result (Stops (program_of p.now.program) f start.fresh start.vars start.heap
         start.unit budget) }
-    ensures log { IsTrue keep → start.fresh ≡ false → IfOk result (λ t.
-        IsLog (program_of p.now.program) f start.fresh start.vars start.heap start.unit
-        budget.steps t.0 (map entry_of t.2.entries.items)) }
+    ensures log { IsTrue keep → IfOk result (λ t. IsLog (program_of p.now.program) f start.fresh
+        start.vars start.heap start.unit budget.steps t.0 (map entry_of t.2.entries.items)) }
 {
     running_parts_run();
     going_keeps_path();
     drained_tasks_have_spent_steps();
+    tables_go_on_with_logs();
     let (regions, task) = match open(rt, alloc, p, f, start, budget.steps, gate, keep) {
         Ok(opened) => opened,
         Err(stop) => return Err(stop),

@@ -4,6 +4,7 @@ pub mod Counts
 pub mod Draining
 pub mod Beginning
 pub mod SettingUp
+pub mod Telling
 pub mod Quiet
 pub mod Staying
 pub mod Meeting

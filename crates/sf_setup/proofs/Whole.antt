@@ -1,12 +1,14 @@
 -- What the whole of setting up comes to.
 -- Names: `up-WHAT`.
-use Rattle.std.specs.Prelude.{List}
+use Rattle.std.specs.Prelude.{◌≡◌, List}
+use Rattle.std.proofs.Common.{◌∙◌}
 use Rattle.sf_core.specs.Machine.Step.{Event}
 use Rattle.sf_core.specs.Program.Syntax.{Program}
 use Rattle.sf_part.specs.declared.part.Part.{Part}
 use Rattle.sf_part.specs.Given.{GivesEach}
 use Rattle.sf_part.specs.PartView.{part_of}
 use Rattle.sf_part.specs.Timed.{TimedPart, TimedContent}
+use Rattle.sf_setup.proofs.Goes.{keeps-log}
 use Rattle.sf_setup.proofs.Meeting.{drained-later}
 use Rattle.sf_setup.specs.Checked.Alone.{HasCome, HasDrained}
 use Rattle.sf_setup.specs.Checked.Laws.{DrainedTasksHaveSpentSteps}
@@ -28,6 +30,13 @@ up-has p a b contents c h event gives = record {
   event = event;
   gives = gives;
 }
+
+-- a log is kept after as before
+pub up-keeps : (p : Program) (a b : Part) (contents : List TimedContent) (c : TimedPart)
+    → HasCome p a b → (event : Event) → GivesEach p event (part_of b) contents c
+    → c.keeps ≡ (part_of a).keeps
+up-keeps p a b contents c h event gives =
+    (gives.settles.notes).keeps ∙ keeps-log p (part_of a) (part_of b) h.events h.goes
 
 -- or stops before
 pub up-stopped : DrainedTasksHaveSpentSteps → (p : Program) (o : Origin) (a : TimedPart)

@@ -2,6 +2,7 @@
 -- sets the resources up, what is so then, and of a task that goes on alone. One module for each.
 pub mod Fresh
 pub mod SetUp
+pub mod Told
 pub mod Laws
 pub mod Alone
 pub mod RunLaws

@@ -8,6 +8,7 @@ ghost use Rattle.sf_setup.specs.Checked.Laws.{
   GoingAloneComposes,
   GoingAloneIsGoing,
   ResourcesAreSetUp,
+  SettingUpIsTold,
 };
 
 use sf_own::{first_parts_are_safe, going_keeps_safe, settling_keeps_safe};
@@ -19,6 +20,10 @@ use sf_part::time::settling_stays_in_time;
 use sf_part::whole::{held_are_of_the_program, running_parts_run, waiting_parts_wait};
 use sf_spend::{
     counted_lists_are_numbered, counts_compose, counts_stay_balanced, numbered_lists_are_counted,
+};
+use sf_trace::{
+    equal_weights_permute, parallel_calls_fork, private_acts_meet_nobody, runs_have_traces,
+    traces_are_runs, traces_are_unique,
 };
 
 /// A task that goes on alone goes on.
@@ -74,6 +79,27 @@ pub fn resources_are_set_up()
     going_keeps_safe();
     settling_keeps_safe();
     settling_stays_in_time();
+}
+
+/// Its log then tells of all events by which it has run, where it keeps one.
+#[tactic(auto, using(crate::proofs::Telling::setting_up_is_told))]
+pub fn setting_up_is_told()
+    ensures { SettingUpIsTold }
+{
+    first_parts_are_whole();
+    private_events_are_steps();
+    forks_are_steps();
+    joins_are_steps();
+    settling_is_a_step();
+    running_parts_run();
+    waiting_parts_wait();
+    held_are_of_the_program();
+    private_acts_meet_nobody();
+    parallel_calls_fork();
+    traces_are_runs();
+    runs_have_traces();
+    traces_are_unique();
+    equal_weights_permute();
 }
 
 /// The part with which a procedure starts from a fresh start begins a run whose resources are still

@@ -8,8 +8,8 @@
 //! - `run_laws`: what they need to know of parts; `crossing`: what may go to other threads.
 //!
 //! `specs/` says by which events a task goes on alone (Going), how one comes to have no unit left
-//! (Draining), where such a run begins (Fresh), and what is so once the resources are set up
-//! (SetUp).
+//! (Draining), where such a run begins (Fresh), what is so once the resources are set up (SetUp), and
+//! of which events a log tells then (Told).
 #![tactic(auto)]
 
 mod alone;

@@ -1,6 +1,6 @@
 //! The resources set up.
 
-ghost use Rattle.std.specs.Prelude.{IfErr, IfOk, map};
+ghost use Rattle.std.specs.Prelude.{◌≡◌, IfErr, IfOk, map};
 ghost use Rattle.std.specs.List.{AllByRecursion};
 ghost use Rattle.sf_core.specs.Machine.Step.{Event};
 ghost use Rattle.sf_core.specs.Program.ProgramView.{program_of};
@@ -28,8 +28,8 @@ use std::thread::Threads;
 /// procedure `init`, up to its return, which leaves the content of each resource, in file order.
 /// Parallel calls of it run on threads of their own, where these can be made, and each child passes
 /// the gate at its start. No table of resources is needed, since the task holds them all: no task
-/// comes to a region. `Steps` says that a task would go on and has used as many units as it was
-/// given.
+/// comes to a region. A log that the part keeps goes on with the events of all tasks (`laws`).
+/// `Steps` says that a task would go on and has used as many units as it was given.
 pub fn set_up<'p, R: Threads + Sync, G: Gate>(
     rt: &R,
     p: &'p Arranged,
@@ -41,6 +41,7 @@ pub fn set_up<'p, R: Threads + Sync, G: Gate>(
     requires fresh { (o : Origin) × BeginsFresh (program_of p.now.program) o (part_of part) }
     ensures ok { IfOk result (λ t. HasSetUp (program_of p.now.program) (part_of part.entry)
         (map content_of t.1.items) (part_of t.0)) }
+    ensures keeps { IfOk result (λ t. (part_of t.0).keeps ≡ (part_of part.entry).keeps) }
     ensures leads { IfOk result (λ t. (o : Origin)
         → BeginsFresh (program_of p.now.program) o (part_of part.entry)
         → IsSetUp (program_of p.now.program) o (map content_of t.1.items) (part_of t.0)) }

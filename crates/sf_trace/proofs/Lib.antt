@@ -1,3 +1,4 @@
 pub mod Traces
 pub mod Meetings
 pub mod Weights
+pub mod Logs

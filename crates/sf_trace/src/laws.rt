@@ -2,6 +2,7 @@
 
 ghost use Rattle.sf_trace.specs.Checked.Laws.{
   EqualWeightsPermute,
+  LogsCompose,
   ParallelCallsFork,
   PrivateActsMeetNobody,
   RegionsTouchOne,
@@ -65,4 +66,11 @@ pub fn settling_frees_all()
 #[tactic(auto, using(crate::proofs::Weights::equal_weights_permute))]
 pub fn equal_weights_permute()
     ensures { EqualWeightsPermute }
+{}
+
+/// The logs of two lists of events, one after the other, are together one of both, where of two whose
+/// order counts the one of the second list has the greater stamp.
+#[tactic(auto, using(crate::proofs::Logs::logs_compose))]
+pub fn logs_compose()
+    ensures { LogsCompose }
 {}

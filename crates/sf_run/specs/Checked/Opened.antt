@@ -28,6 +28,7 @@ use Rattle.sf_part.specs.Supplied.{Supplied}
 use Rattle.sf_region.specs.declared.views.Begun.{Begun}
 use Rattle.sf_region.specs.Waits.{contents_in}
 use Rattle.sf_safe.specs.Checked.Contract.{Known}
+use Rattle.sf_setup.specs.Checked.Told.{IsLogUpTo}
 use Rattle.sf_setup.specs.declared.stop.SetUpStop.{SetUpStop}
 use Rattle.sf_setup.specs.declared.stop.SetUpStop.TheVariants.{Steps as SetUpSteps, OutOfMemory as SetUpOutOfMemory}
 use Rattle.sf_run.specs.Running.{SetsUp}
@@ -36,7 +37,8 @@ use Rattle.sf_threads.specs.declared.stop.Stop.TheVariants.{Steps, Waits, OutOfM
 
 -- IsPrepared: the entry's part, which holds no resource, is safe, and has no frame of the procedure
 -- that sets the resources up; one content for each resource, just what is the resource's; and
--- these are, taken together, where the procedure begins, or where setting up has led to from there
+-- these are, taken together, where the procedure begins, or where setting up has led to from there,
+-- of which the part's log tells, where it keeps one
 pub record IsPrepared (p : Program) (f : ProcId) (is_fresh : Bool) (vars : Vars) (heap : Cells)
     (base count : ℕ) (a : Part) (contents : List Content) : Type 0 where
   pub of : IsPartOf p a
@@ -47,7 +49,6 @@ pub record IsPrepared (p : Program) (f : ProcId) (is_fresh : Bool) (vars : Vars)
   pub past : IsPastSetup p (part_of a).part
   pub within : length (numbers (part_of a).part.supply) ≤ STEPS
   pub given : (part_of a).given ≡ count
-  pub unlogged : is_fresh ≡ false → (part_of a).log ≡ []
   pub each : length contents ≡ length p.resources
   pub in_order : AreFrom 0 (map content_of contents)
   pub is_in : AllByRecursion (λ (k : Content). IsContentIn p k) contents
@@ -61,6 +62,8 @@ pub record IsPrepared (p : Program) (f : ProcId) (is_fresh : Bool) (vars : Vars)
   pub run : NumberedFrom p start (has (units base count)) events opened supply
   pub settled : is_fresh ≡ false → events ≡ []
   pub set_up : is_fresh ≡ true → SetsUp p start events opened
+  pub told : (part_of a).keeps ≡ true
+      → IsLogUpTo p start events opened (part_of a).log (part_of a).clock
   pub whole : Whole ((part_of a).part ∷ []) (contents_in contents) opened
   pub supplied : Supplied ((part_of a).part ∷ []) supply
 

@@ -4,9 +4,11 @@
 use Rattle.std.specs.Prelude.{◌≡◌, ℕ, true, List, [], ◌∷◌, ◌++◌}
 use Rattle.sf_base.specs.declared.ids.ProcId.{ProcId}
 use Rattle.sf_core.specs.Machine.Config.{Path, Config}
+use Rattle.sf_core.specs.Machine.Reach.{Reach}
 use Rattle.sf_core.specs.Machine.SpentSteps.{SpentSteps}
 use Rattle.sf_core.specs.Machine.Step.{Event}
 use Rattle.sf_core.specs.Machine.Whole.{Part, Content, Whole}
+use Rattle.sf_core.specs.Program.Formed.{IsFormed}
 use Rattle.sf_core.specs.Program.Syntax.{Program}
 use Rattle.sf_foot.specs.declared.vars.Vars.{Vars}
 use Rattle.sf_foot.specs.Starting.{StartsWith, store_of}
@@ -20,6 +22,7 @@ use Rattle.sf_setup.specs.Draining.{Drains}
 use Rattle.sf_setup.specs.Checked.Fresh.{BeginsFresh, Origin}
 use Rattle.sf_setup.specs.Going.{GoesBy}
 use Rattle.sf_setup.specs.Checked.SetUp.{HasSetUp, IsSetUp}
+use Rattle.sf_setup.specs.Checked.Told.{IsLogUpTo}
 
 -- a task that goes on alone goes on
 unfoldable pub GoingAloneIsGoing : Type 0
@@ -50,6 +53,14 @@ unfoldable pub ResourcesAreSetUp : Type 0
 ResourcesAreSetUp = (p : Program) → IsAccepted p → (o : Origin) (a b : TimedPart)
     (contents : List TimedContent) → BeginsFresh p o a → HasSetUp p a contents b
     → IsSetUp p o contents b
+
+-- and where a log is kept, it is of the events by which it has run, and none of these is later than
+-- the clock
+unfoldable pub SettingUpIsTold : Type 0
+SettingUpIsTold = (p : Program) → IsFormed p → (o : Origin) (a b : TimedPart)
+    (contents : List TimedContent) (d : Config) → BeginsFresh p o a → (h : HasSetUp p a contents b)
+    → Reach p o.config (h.events ++ h.event ∷ []) d → a.keeps ≡ true
+    → IsLogUpTo p o.config (h.events ++ h.event ∷ []) d b.log b.clock
 
 -- where a run begins with a part from a start that is fresh
 pub record FreshOrigin (p : Program) (f : ProcId) (vars : Vars) (heap : Cells)

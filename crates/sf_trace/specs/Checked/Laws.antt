@@ -1,6 +1,6 @@
 -- Laws of traces: each run has one; and what each event of a part has to do with others.
 -- Mazurkiewicz, "Trace Theory" (1987); O'Hearn (2007) for the events at which tasks meet.
-use Rattle.std.specs.Prelude.{◌≡◌, ◌⊎◌, ◌↔◌, ◌++◌, ℕ, List}
+use Rattle.std.specs.Prelude.{◌≡◌, ◌⊎◌, ◌↔◌, ◌<◌, ◌++◌, ℕ, List, Contains}
 use Rattle.std.specs.List.{sum_by}
 use Rattle.std.specs.List.Sorted.{IsPermutation}
 use Rattle.sf_base.specs.declared.ids.ResId.{ResId}
@@ -11,7 +11,7 @@ use Rattle.sf_core.specs.Machine.Step.{Event}
 use Rattle.sf_core.specs.Program.Syntax.{Program}
 use Rattle.sf_part.specs.Steps.{IsEntry, IsExit, IsFork, IsPrivate, IsSettling}
 use Rattle.sf_part.specs.Timed.{Stamped}
-use Rattle.sf_trace.specs.Logs.{FreesAll}
+use Rattle.sf_trace.specs.Logs.{FreesAll, IsLogOf, Precedes, Timed}
 use Rattle.sf_trace.specs.Trace.{Act, Forks, Joins, Touches, Traces, events_in}
 
 -- what its events lead to by a trace, they lead to
@@ -63,3 +63,11 @@ SettlingFreesAll = (p : Program) (what : Next) → IsSettling p what ↔ FreesAl
 unfoldable pub EqualWeightsPermute : Type 0
 EqualWeightsPermute = (xs ys : List Stamped)
     → ((weigh : Stamped → ℕ) → sum_by weigh xs ≡ sum_by weigh ys) → IsPermutation xs ys
+
+-- the logs of two lists of events, the second of which goes on where the first has led to, are together
+-- one of both, where of two whose order counts the one of the second has the greater stamp
+unfoldable pub LogsCompose : Type 0
+LogsCompose = (p : Program) (events more : List Event) (c d e : Config) (log others : List Stamped)
+    → (one : IsLogOf p c events d log) → (two : IsLogOf p d more e others)
+    → ((x y : Timed) → Contains one.timed x → Contains two.timed y → Precedes p x.act y.act → x.stamp < y.stamp)
+    → IsLogOf p c (events ++ more) e (log ++ others)

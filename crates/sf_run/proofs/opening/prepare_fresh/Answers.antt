@@ -29,11 +29,11 @@ returns-in-Ok-set_up-clause-prepared g c =
     c.in-Ok-set_up.prepared.1.items) (sym c.requires.fresh)
     (fresh-prepared c.first_parts_are_whole.ensures c.events_alone_are_steps.ensures
     c.settling_is_a_step.ensures c.held_are_of_the_program.ensures c.running_parts_run.ensures
-    c.args.p.now.program c.args.f c.args.start.vars c.args.start.heap c.args.start.parts.items
+    c.setting_up_is_told.ensures c.args.p.now.program c.args.f c.args.start.vars c.args.start.heap c.args.start.parts.items
     c.args.start.unit c.args.steps k.with_ k.origin (part_of c.in-Ok.first.0)
     c.in-Ok-set_up.prepared.0 c.in-Ok-set_up.prepared.1.items k.begins k.is
     c.in-Ok-set_up.ensures.ok (c.in-Ok-set_up.ensures.leads k.origin k.begins)
-    c.in-Ok-set_up.ensures.of c.in-Ok-set_up.ensures.contents)
+    c.in-Ok-set_up.ensures.keeps c.in-Ok-set_up.ensures.of c.in-Ok-set_up.ensures.contents)
 
 pub returns-clause-stops : goal.returns-clause-stops
 returns-clause-stops g c =

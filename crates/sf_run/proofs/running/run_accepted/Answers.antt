@@ -82,17 +82,16 @@ returns-in-Ok-close-clause-ends_alone g c = λ n.
 
 pub returns-in-Ok-close-clause-log : goal.returns-in-Ok-close-clause-log
 unfolding GoingKeepsPath
-returns-in-Ok-close-clause-log g c = λ kept not_fresh.
+returns-in-Ok-close-clause-log g c = λ kept.
     let entry : (part_of c.in-Ok-run_tasks.last.1).part.task ≡ [] =
     c.going_keeps_path.ensures (program_of c.args.p.now.program)
     (part_of c.in-Ok.opened.1.1) (part_of c.in-Ok-run_tasks.last.1)
     (c.in-Ok-run_tasks.ensures.ended).goes
     ∙ (ap (λ (z : Part). (part_of z).part.task) (sym c.in-Ok.ensures.first)
     ∙ ((c.in-Ok.ensures.opened).prepared).task) in
-    play-logged c.running_parts_run.ensures (program_of c.args.p.now.program) c.args.f
+    play-logged c.running_parts_run.ensures c.tables_go_on_with_logs.ensures (program_of c.args.p.now.program) c.args.f
     c.args.start.fresh c.args.start.vars c.args.start.heap c.args.start.unit
     c.args.budget.steps c.in-Ok.opened.0.1 c.in-Ok-run_tasks.last.0.1.begun c.in-Ok.ensures.opened
     (part_of c.in-Ok-run_tasks.last.1) c.in-Ok-close.ended.0 c.in-Ok-close.ended.2
     ((c.in-Ok-run_tasks.ensures.ended).running).begun c.in-Ok-close.ensures.closed
-    (c.in-Ok-run_tasks.ensures.ended).done entry not_fresh
-    (c.in-Ok.ensures.keeps not_fresh ∙ kept)
+    (c.in-Ok-run_tasks.ensures.ended).done entry (c.in-Ok.ensures.keeps ∙ kept)

@@ -15,8 +15,8 @@ returns-clause-ends_alone g c = λ n.
     (sym c.proved_program-p.ensures.program) n))
 
 pub returns-clause-log : goal.returns-clause-log
-returns-clause-log g c = λ kept not_fresh.
+returns-clause-log g c = λ kept.
     subst (λ (z : Program). IfOk c.run_accepted.result (λ t. IsLog z c.args.f c.args.start.fresh
     c.args.start.vars c.args.start.heap c.args.start.unit c.args.budget.steps t.0
     (map entry_of t.2.entries.items))) c.proved_program-p.ensures.program
-    (c.run_accepted.ensures.log kept not_fresh)
+    (c.run_accepted.ensures.log kept)

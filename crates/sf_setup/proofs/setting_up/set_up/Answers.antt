@@ -4,7 +4,7 @@ use Rattle.sf_part.specs.PartView.{part_of}
 use Rattle.std.specs.Prelude.{map}
 use Rattle.sf_setup.proofs.Meeting.{err-also, ok-also}
 use Rattle.sf_setup.proofs.Staying.{come-settling, first-alone, first-sets_up}
-use Rattle.sf_setup.proofs.Whole.{up-has, up-stopped, up-stopped_later}
+use Rattle.sf_setup.proofs.Whole.{up-has, up-keeps, up-stopped, up-stopped_later}
 use Rattle.sf_setup.specs.Checked.Laws.{ResourcesAreSetUp}
 use Rattle.sf_setup.proofs.setting_up.set_up.Goals as goal
 
@@ -35,6 +35,13 @@ returns-clause-ok g c =
     let p = program_of c.args.p.now.program in
     ok-also c.settle.result c.settle.ensures.gives
     (λ t h. up-has p c.args.part c.in-Ok.last (map content_of t.1.items) (part_of t.0)
+    c.in-Ok.ensures.come h.0 h.1)
+
+pub returns-clause-keeps : goal.returns-clause-keeps
+returns-clause-keeps g c =
+    let p = program_of c.args.p.now.program in
+    ok-also c.settle.result c.settle.ensures.gives
+    (λ t h. up-keeps p c.args.part c.in-Ok.last (map content_of t.1.items) (part_of t.0)
     c.in-Ok.ensures.come h.0 h.1)
 
 pub returns-clause-leads : goal.returns-clause-leads
