@@ -21,13 +21,14 @@ use Rattle.sf_search.specs.Checked.Laws.{TakenTagsProve}
 use Rattle.sf_sound.specs.Proofs.{ProofsAreSound}
 use Rattle.sf_sym.specs.declared.tag.Tag.{Tag}
 use Rattle.sf_cli.proofs.DemoAnswers.{demo-sound, demo-status}
-use Rattle.sf_cli.specs.Answer.{Accepted, AcceptedBytes, FileAnswer, IsProved, IsSaid, OrderAnswer, RecheckAnswer, Reply, RunFileAnswer, VerdictAnswer, admitted, admitted_run, answer, by_demo, by_proof, by_run, by_search, entered, file_refused, no_entry, rechecked, refused, refused_run, unproved, unread}
+use Rattle.sf_cli.proofs.Kept.{kept-shown}
+use Rattle.sf_cli.specs.Answer.{Accepted, AcceptedBytes, FileAnswer, IsProved, IsSaid, OrderAnswer, RecheckAnswer, Reply, RunAnswer, RunFileAnswer, RunJournal, VerdictAnswer, admitted, admitted_run, answer, by_demo, by_journal, by_proof, by_run, by_search, entered, file_refused, no_entry, rechecked, refused, refused_run, unproved, unread}
 use Rattle.sf_cli.specs.SoundFile.{AreProgram, AsksForProof, IsAccepting, NamesSound}
 use Rattle.sf_cli.specs.FileFault.{Admits}
 use Rattle.sf_cli.specs.Checked.Laws.{AcceptedFilesAreSound, AcceptedProofsAreSound, AcceptedRunsAreSound}
 use Rattle.sf_cli.specs.Reads.{Reads}
 use Rattle.sf_cli.specs.Rechecked.{accepted, rejected}
-use Rattle.sf_words.specs.Words.{Text, Order, demo, order_of, ranking, recheck, replay, run, verify, witness}
+use Rattle.sf_words.specs.Words.{Text, Order, demo, journal, order_of, ranking, recheck, replay, run, verify, witness}
 
 -- a program that is read is in order
 pub accepted-formed : EachFileIsShallow → ElaboratedIsFormed → (bytes : Text) (p : Program) → Reads bytes p → IsFormed p
@@ -121,7 +122,7 @@ accepting-said status (inl z) = inl (inl (omega (arith, z)))
 accepting-said status (inr (inl z)) = inl (inl (omega (arith, z)))
 accepting-said status (inr (inr z)) = inl (inl (omega (arith, z)))
 
--- only a run is answered with 5 or 6
+-- only a run, with its events or without, is answered with 5 or 6
 accepted-zero : (status most : ℕ) → status ≤ most → most < 5 → IsAccepting status → status ≡ 0
 accepted-zero status most l m (inl z) = z
 accepted-zero status most l m (inr (inl z)) = absurd (omega (arith, l, m, z))
@@ -168,6 +169,11 @@ accepted-order files proofs runs told words text status asks s a = go (order_of 
     go (Some (ranking file)) e q x = absurd q
     go (Some (replay file entry state schedule)) e q x = absurd q
     go (Some (witness file)) e q x = absurd q
+    go (Some (journal file entry state steps waits)) e q (bytes, may, k) =
+        let shown = kept-shown (RunAnswer told bytes entry state steps waits) (RunJournal told bytes entry state steps) text
+        status k in
+        by_journal file entry state steps waits e bytes may k
+        (runs told bytes entry state shown.0 steps waits status s shown.1)
 
 -- what is said with such a status promises it
 pub accepted-reply : AcceptedFilesAreSound → AcceptedProofsAreSound → AcceptedRunsAreSound → (told : Option Files)
@@ -201,6 +207,8 @@ accepted-names told words text status (by_search file workers e bytes may k a) =
 accepted-names told words text status (by_proof file name e bytes may k a) =
     names told words bytes (subst (λ (o : Option Order). AreProgram told o bytes) (sym e) may) a
 accepted-names told words text status (by_run file entry state steps waits e bytes may k a) =
+    names told words bytes (subst (λ (o : Option Order). AreProgram told o bytes) (sym e) may) a
+accepted-names told words text status (by_journal file entry state steps waits e bytes may k a) =
     names told words bytes (subst (λ (o : Option Order). AreProgram told o bytes) (sym e) may) a
 accepted-names told words text status (by_demo procedures e k a) =
     names told words (made_text procedures)

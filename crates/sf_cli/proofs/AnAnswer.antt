@@ -31,12 +31,12 @@ use Rattle.sf_cli.specs.declared.refusal.Refusal.{Refusal}
 use Rattle.sf_cli.specs.declared.refusal.Refusal.TheVariants.{At}
 use Rattle.sf_cli.specs.declared.refusal.RefusalKind.TheVariants.{Undetermined}
 use Rattle.sf_cli.specs.FileFault.{FileFault, in_grammar, in_names, in_order, in_tokens, in_variables, unfit, unread}
-use Rattle.sf_cli.specs.Checked.Laws.{IsAlone, EachCommandHasAnAnswer, EachDemoHasAnAnswer, EachFileHasAnAnswer, EachProofHasAnAnswer, EachRunHasAnAnswer, EachRankingHasAnAnswer, EachReplayHasAnAnswer, EachWitnessHasAnAnswer}
+use Rattle.sf_cli.specs.Checked.Laws.{IsAlone, EachCommandHasAnAnswer, EachDemoHasAnAnswer, EachFileHasAnAnswer, EachJournalHasAnAnswer, EachProofHasAnAnswer, EachRunHasAnAnswer, EachRankingHasAnAnswer, EachReplayHasAnAnswer, EachWitnessHasAnAnswer}
 use Rattle.sf_cli.specs.Reads.{Reads}
 use Rattle.sf_cli.specs.Refusals.{of_grammar, of_names, of_tokens, of_variables, refusal_text}
 use Rattle.sf_cli.specs.Rechecked.{ProofAnswer, accepted, in_tags, in_text, rejected}
 use Rattle.sf_cli.specs.Rejections.{of_tags, of_text, rejection_text}
-use Rattle.sf_words.specs.Words.{Text, Order, demo, order_of, ranking, recheck, replay, run, verify, witness}
+use Rattle.sf_words.specs.Words.{Text, Order, demo, journal, order_of, ranking, recheck, replay, run, verify, witness}
 use Rattle.sf_cli.specs.Usage.{usage_text}
 
 -- what the layers below say: that each has an answer, and that what is read is in order
@@ -164,9 +164,9 @@ some-recheck each files bytes name given there text status (admitted p a k) =
 
 -- so has a command, where the files that it names are there
 pub some-command : EachFileHasAnAnswer → EachProofHasAnAnswer → EachRunHasAnAnswer → EachDemoHasAnAnswer
-    → EachRankingHasAnAnswer → EachReplayHasAnAnswer → EachWitnessHasAnAnswer
+    → EachRankingHasAnAnswer → EachReplayHasAnAnswer → EachWitnessHasAnAnswer → EachJournalHasAnAnswer
     → EachCommandHasAnAnswer
-some-command each proofs runs demos rankings replays witnesses files words one there = go (order_of words) refl
+some-command each proofs runs demos rankings replays witnesses journals files words one there = go (order_of words) refl
   where
     said : (o : Option Order) → order_of words ≡ o → OrderAnswer (Some files) o usage_text 2
         → (text : Text) × (status : ℕ) × Answer files words text status
@@ -201,6 +201,15 @@ some-command each proofs runs demos rankings replays witnesses files words one t
         let given = there state (subst (λ (o : Option Order). Names o state) (sym e) (inr refl)) in
         let alone = subst (λ (o : Option Order). IsAlone files o) e one in
         let a = runs files found.0 entry state given.0 steps waits given.1 (alone found.0 given.0 found.1 given.1) in (
+          a.0,
+          a.1,
+          subst (λ (o : Option Order). OrderAnswer (Some files) o a.0 a.1) (sym e) (found.0, found.1, a.2),
+        )
+    go (Some (journal file entry state steps waits)) e =
+        let found = there file (subst (λ (o : Option Order). Names o file) (sym e) (inl refl)) in
+        let given = there state (subst (λ (o : Option Order). Names o state) (sym e) (inr refl)) in
+        let alone = subst (λ (o : Option Order). IsAlone files o) e one in
+        let a = journals files found.0 entry state given.0 steps waits given.1 (alone found.0 given.0 found.1 given.1) in (
           a.0,
           a.1,
           subst (λ (o : Option Order). OrderAnswer (Some files) o a.0 a.1) (sym e) (found.0, found.1, a.2),

@@ -14,9 +14,9 @@ use Rattle.sf_state.specs.Starts.{IsStartText}
 use Rattle.sf_cli.specs.Answer.{Ended, EndedRun, OrderAnswer, Reply, RunFileAnswer, admitted_run, answer, entered, no_entry, refused_run, unproved, unread}
 use Rattle.sf_cli.specs.SoundFile.{MayHave}
 use Rattle.sf_cli.specs.FileFault.{Admits}
-use Rattle.sf_cli.specs.Checked.Laws.{FinishedRunsHaveEnded}
+use Rattle.sf_cli.specs.Checked.Laws.{FinishedRunsHaveEnded, JournalsReachTheirEnds}
 use Rattle.sf_cli.specs.Ran.{MayCome, ended, no_start, ran, spent_steps, spent_waits}
-use Rattle.sf_words.specs.Words.{Order, Text, demo, recheck, run, verify, ranking, replay, witness}
+use Rattle.sf_words.specs.Words.{Order, Text, demo, journal, recheck, run, verify, ranking, replay, witness}
 
 -- what is said of a start with status 0
 ended-start : (told : Option Files) (file bytes entry state_name text : Text) (steps waits status : ℕ)
@@ -80,11 +80,11 @@ ended-run told file entry state_name text steps waits (bytes, may, refused_run r
 ended-run told file entry state_name text steps waits (bytes, may, admitted_run p a k) =
     ended-file told file bytes entry state_name text steps waits 0 may p a refl k
 
--- what is said with status 0 promises it, where it is said of a run
-pub ended-reply : FinishedRunsHaveEnded → (told : Option Files) (before after : Text → ℕ) (order : Option Order)
+-- what is said with status 0 promises it, where it is said of a run, with its events or without
+pub ended-reply : FinishedRunsHaveEnded → JournalsReachTheirEnds → (told : Option Files) (before after : Text → ℕ) (order : Option Order)
     (text : Text) (status : ℕ) → status ≡ 0 → Reply told before after order text status → Ended told order text
-ended-reply law told before after order text status z (unread s u) = absurd (omega (arith, z, s))
-ended-reply law told before after order text status z (answer l a) = go order a
+ended-reply law journals told before after order text status z (unread s u) = absurd (omega (arith, z, s))
+ended-reply law journals told before after order text status z (answer l a) = go order a
   where
     go : (o : Option Order) → OrderAnswer told o text status → Ended told o text
     go None x = tt
@@ -97,3 +97,6 @@ ended-reply law told before after order text status z (answer l a) = go order a
     go (Some (run file entry state steps waits)) x =
         law told file entry state text steps waits
         (subst (λ (n : ℕ). OrderAnswer told (Some (run file entry state steps waits)) text n) z x)
+    go (Some (journal file entry state steps waits)) x =
+        journals told file entry state text steps waits
+        (subst (λ (n : ℕ). OrderAnswer told (Some (journal file entry state steps waits)) text n) z x)

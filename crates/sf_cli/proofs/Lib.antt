@@ -8,7 +8,10 @@ pub mod EndTexts
 pub mod OneRun
 pub mod ARun
 pub mod Endings
+pub mod Kept
 pub mod RunReplies
+pub mod Journals
+pub mod OneJournal
 pub mod AnAnswer
 pub mod Complete
 pub mod AnswerLaws

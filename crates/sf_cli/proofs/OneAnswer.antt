@@ -29,19 +29,19 @@ use Rattle.sf_check.specs.Refusal.{Refused}
 use Rattle.sf_io.specs.Shelf.{Files}
 use Rattle.sf_proof.specs.declared.lined.Lined.{Lined}
 use Rattle.sf_proof.specs.Checked.Laws.{EachTextReadsOnce}
-use Rattle.sf_cli.specs.Answer.{FileAnswer, OrderAnswer, ProgramAnswer, RankingFileAnswer, RecheckAnswer, RunAnswer, VerdictAnswer, WitnessFileAnswer, admitted, file_refused, rechecked, refused}
+use Rattle.sf_cli.specs.Answer.{FileAnswer, JournalAnswer, OrderAnswer, ProgramAnswer, RankingFileAnswer, RecheckAnswer, RunAnswer, VerdictAnswer, WitnessFileAnswer, admitted, file_refused, rechecked, refused}
 use Rattle.sf_cli.specs.Replayed.{ReplayAnswer}
 use Rattle.sf_cli.specs.declared.rejection.Rejection.{Rejection}
 use Rattle.sf_cli.specs.declared.refusal.Refusal.{Refusal}
 use Rattle.sf_cli.specs.declared.refusal.Refusal.TheVariants.{At}
 use Rattle.sf_cli.specs.declared.refusal.RefusalKind.TheVariants.{Undetermined}
 use Rattle.sf_cli.specs.FileFault.{ReadFault, in_tokens, in_grammar, in_names, ProgramFault, in_variables, in_order, FileFault, unread, unfit, Admits}
-use Rattle.sf_cli.specs.Checked.Laws.{IsAlone, IsOfTasks, EachCommandHasOneAnswer, EachDemoHasOneAnswer, EachFileHasOneAnswer, EachFileIsDecided, EachFileIsOneProgram, EachProofHasOneAnswer, EachRunHasOneAnswer, EachRankingHasOneAnswer, EachReplayHasOneAnswer, EachWitnessHasOneAnswer}
+use Rattle.sf_cli.specs.Checked.Laws.{IsAlone, IsOfTasks, EachCommandHasOneAnswer, EachJournalHasOneAnswer, EachDemoHasOneAnswer, EachFileHasOneAnswer, EachFileIsDecided, EachFileIsOneProgram, EachProofHasOneAnswer, EachRunHasOneAnswer, EachRankingHasOneAnswer, EachReplayHasOneAnswer, EachWitnessHasOneAnswer}
 use Rattle.sf_cli.specs.Reads.{Reads}
 use Rattle.sf_cli.specs.Refusals.{of_tokens, of_grammar, of_names, of_variables, refusal_text}
 use Rattle.sf_cli.specs.Rechecked.{IsProof, ProofAnswer, ProofFault, accepted, in_tags, in_text, rejected}
 use Rattle.sf_cli.specs.Rejections.{of_tags, of_text, rejection_text}
-use Rattle.sf_words.specs.Words.{Text, Order, demo, order_of, ranking, recheck, replay, run, verify, witness}
+use Rattle.sf_words.specs.Words.{Text, Order, demo, journal, order_of, ranking, recheck, replay, run, verify, witness}
 
 -- what the layers below say of their own answers
 pub record Layers : Type 0 where
@@ -236,8 +236,8 @@ recheck-once l one files bytes name text other status code (rechecked p a (given
 -- a command has one answer over the same files
 pub answer-command : EachFileIsDecided → EachFileHasOneAnswer → EachProofHasOneAnswer → EachRunHasOneAnswer
     → EachDemoHasOneAnswer → EachRankingHasOneAnswer → EachReplayHasOneAnswer
-    → EachWitnessHasOneAnswer → EachCommandHasOneAnswer
-answer-command l one proofs runs demos rankings replays witnesses files words text other status code alone a b =
+    → EachWitnessHasOneAnswer → EachJournalHasOneAnswer → EachCommandHasOneAnswer
+answer-command l one proofs runs demos rankings replays witnesses journals files words text other status code alone a b =
     go (order_of words) alone a b
   where
     go : (o : Option Order) → (IsOfTasks status → IsAlone files o) → OrderAnswer (Some files) o text status
@@ -265,3 +265,8 @@ answer-command l one proofs runs demos rankings replays witnesses files words te
     go (Some (witness file)) n (bytes, may, x) (found, has, y) =
         let same : found ≡ bytes = some-once (files file) found bytes has may in
         witnesses bytes text other status code x (subst (λ (z : Text). WitnessFileAnswer z other code) same y)
+    go (Some (journal file entry state steps waits)) n (bytes, may, x) (found, has, y) =
+        let same : found ≡ bytes = some-once (files file) found bytes has may in
+        journals files bytes entry state text other steps waits status code
+        (λ of given there. n of bytes given may there) x
+        (subst (λ (z : Text). JournalAnswer (Some files) z entry state steps waits other code) same y)

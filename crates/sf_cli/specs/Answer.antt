@@ -1,10 +1,12 @@
 -- Answer: the text and the status that the command gives to its words, over a map of files.
 -- The form of a command's answer is that of The Open Group, "Utility Conventions" (2018); the
 -- statuses are this project's own.
-use Rattle.std.specs.Prelude.{◌≡◌, ◌≢◌, ℕ, ◌<◌, ◌≤◌, ◌⊎◌, Bool, Option, Some, None, List, [], ◌++◌, codes}
+use Rattle.std.specs.Prelude.{◌≡◌, ◌≢◌, ℕ, ◌<◌, ◌≤◌, ◌⊎◌, Bool, Option, Some, None, List, [], ◌++◌, Contains, codes}
+use Rattle.sf_base.specs.declared.value.Value.TheVariants.{Nil as nil}
 use Rattle.sf_core.specs.Machine.Config.{Config}
 use Rattle.sf_core.specs.Machine.Enabled.{HasEnded}
 use Rattle.sf_core.specs.Machine.Numbered.{Numbered}
+use Rattle.sf_core.specs.Machine.Reach.{Reach}
 use Rattle.sf_core.specs.Machine.Step.{Event, procedure_at}
 use Rattle.sf_core.specs.Program.Syntax.{Procedure, Program}
 use Rattle.sf_foot.specs.declared.vars.Vars.{Vars}
@@ -29,11 +31,12 @@ use Rattle.sf_cli.specs.declared.refusal.Refusal.{Refusal}
 use Rattle.sf_cli.specs.SoundFile.{MayHave}
 use Rattle.sf_cli.specs.DemoText.{demo_text}
 use Rattle.sf_gen.specs.Made.{made_text}
+use Rattle.sf_cli.specs.Journaled.{StateJournal, WithJournal, schedule_text}
 use Rattle.sf_cli.specs.Ran.{IsFinishedText, StateAnswer}
 use Rattle.sf_cli.specs.Ranked.{RankingAnswer}
 use Rattle.sf_cli.specs.Rechecked.{ProofAnswer}
 use Rattle.sf_cli.specs.Replayed.{ComesByBytes, ReplayAnswer}
-use Rattle.sf_words.specs.Words.{Text, Order, demo, order_of, ranking, recheck, replay, run, verify, witness}
+use Rattle.sf_words.specs.Words.{Text, Order, demo, journal, order_of, ranking, recheck, replay, run, verify, witness}
 use Rattle.sf_cli.specs.StartRefusals.{start_refusal_text}
 use Rattle.sf_cli.specs.Usage.{usage_text}
 use Rattle.sf_witness.specs.WitnessText.{WitnessText}
@@ -113,6 +116,30 @@ pub data RunAnswer (told : Option Files) (bytes entry state_name : Text) (steps 
   admitted_run : (p : Program) → Admits bytes p → RunFileAnswer told p entry state_name steps waits text status
       → RunAnswer told bytes entry state_name steps waits text status
 
+-- the journal of a run from the text of a state that has this name, for a program with which nothing is wrong: a procedure
+-- of that name is run, and this is the journal from that text
+pub record RunFileJournal (told : Option Files) (p : Program) (entry state_name : Text) (steps : ℕ) (shown : Text)
+    (events : List Event) : Type 0 where
+  pub f : ProcId
+  pub given : Text
+  pub is_run : IsRun p entry f
+  pub has : MayHave told state_name given
+  pub journal : StateJournal p f given steps shown events
+
+-- the same for a program's file of these bytes
+pub record RunJournal (told : Option Files) (bytes entry state_name : Text) (steps : ℕ) (shown : Text)
+    (events : List Event) : Type 0 where
+  pub program : Program
+  pub admits : Admits bytes program
+  pub journal : RunFileJournal told program entry state_name steps shown events
+
+-- the answer to a run of a file of these bytes whose events are told
+abbrev pub JournalAnswer : Option Files → (bytes entry state_name : Text) → (steps waits : ℕ) → Text → (status : ℕ)
+    → Type 0
+JournalAnswer told bytes entry state_name steps waits text status =
+    WithJournal (RunAnswer told bytes entry state_name steps waits) (RunJournal told bytes entry state_name steps) text
+    status
+
 -- the answer to `demo`: where the file that is made has a proof, how large both are, and else what is
 -- answered to that file
 pub data DemoAnswer (procedures : ℕ) (text : Text) (status : ℕ) : Type 0 where
@@ -172,6 +199,8 @@ OrderAnswer told (Some (replay file entry state schedule)) text status =
     (bytes : Text) × MayHave told file bytes × ReplayAnswer told bytes entry state schedule text status
 OrderAnswer told (Some (witness file)) text status =
     (bytes : Text) × MayHave told file bytes × WitnessFileAnswer bytes text status
+OrderAnswer told (Some (journal file entry state steps waits)) text status =
+    (bytes : Text) × MayHave told file bytes × JournalAnswer told bytes entry state steps waits text status
 
 -- the answer over the files of a shelf
 abbrev pub Answers : Option Files → (words : List Text) → Text → (status : ℕ) → Type 0
@@ -189,6 +218,7 @@ Names (Some (run file entry state steps waits)) name = (name ≡ file) ⊎ (name
 Names (Some (ranking file)) name = name ≡ file
 Names (Some (witness file)) name = name ≡ file
 Names (Some (replay file entry state schedule)) name = (name ≡ file) ⊎ ((name ≡ state) ⊎ (name ≡ schedule))
+Names (Some (journal file entry state steps waits)) name = (name ≡ file) ⊎ (name ≡ state)
 Names _ name = ⊥
 
 -- these bytes are those of a program with which nothing is wrong
@@ -219,6 +249,8 @@ Reaches told (Some (ranking file)) name = name ≡ file
 Reaches told (Some (witness file)) name = name ≡ file
 Reaches told (Some (replay file entry state schedule)) name = (name ≡ file)
     ⊎ ((bytes : Text) × MayHave told file bytes × ComesByBytes told bytes entry state schedule name)
+Reaches told (Some (journal file entry state steps waits)) name =
+    (name ≡ file) ⊎ ((name ≡ state) × MayBeRun told file entry)
 Reaches told _ name = ⊥
 
 -- what is said of a file that can't be read
@@ -278,6 +310,9 @@ pub data Accepted (told : Option Files) (words : List Text) (text : Text) (statu
       → AcceptedBytes bytes → Accepted told words text status
   by_demo : (procedures : ℕ) → order_of words ≡ Some (demo procedures) → DemoAnswer procedures text status
       → AcceptedBytes (made_text procedures) → Accepted told words text status
+  by_journal : (file entry state : Text) (steps waits : ℕ) → order_of words ≡ Some (journal file entry state steps waits)
+      → (bytes : Text) → MayHave told file bytes → JournalAnswer told bytes entry state steps waits text status
+      → AcceptedBytes bytes → Accepted told words text status
 
 -- a run has ended with that text: it is the text of a configuration in which the entry has ended,
 -- and to which some list of events leads from the start that the state's text gives, those of the
@@ -308,7 +343,19 @@ pub record EndedRun (told : Option Files) (file entry state_name : Text) (steps 
   pub ended : HasEnded [] last.tasks
   pub is : IsFinishedText program procedure last text
 
+-- a run has ended, and its events were told: the text is that of its end, and then a list of events, which leads from the
+-- start to that end; each cell that one of them makes stands at the event's number, with all fields nil
+pub record EndedJournal (told : Option Files) (file entry state_name : Text) (steps : ℕ) (text : Text) : Type 0 where
+  pub shown : Text
+  pub run : EndedRun told file entry state_name steps shown
+  pub events : List Event
+  pub reached : Reach run.program run.start events run.last
+  pub empty : (event : Event) → Contains events event
+      → (event.at ≡ event.number) × ((field : ℕ) → event.fields field ≡ nil)
+  pub is : text ≡ shown ++ schedule_text events
+
 -- what is said of an order with status 0: a run has ended with it
 abbrev pub Ended : Option Files → Option Order → Text → Type 0
 Ended told (Some (run file entry state steps waits)) text = EndedRun told file entry state steps text
+Ended told (Some (journal file entry state steps waits)) text = EndedJournal told file entry state steps text
 Ended told _ text = Unit {0}

@@ -9,6 +9,7 @@ pub mod StartRefusals
 pub mod EndText
 pub mod TaskText
 pub mod Ran
+pub mod Journaled
 pub mod Ranked
 pub mod FoundText
 pub mod Replayed

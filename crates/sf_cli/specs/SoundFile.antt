@@ -7,9 +7,9 @@ use Rattle.sf_io.specs.Shelf.{Files}
 use Rattle.sf_core.specs.Machine.Sound.{IsSound}
 use Rattle.sf_cli.specs.Reads.{Reads}
 use Rattle.sf_gen.specs.Made.{made_text}
-use Rattle.sf_words.specs.Words.{Text, Order, demo, order_of, ranking, recheck, replay, run, verify, witness}
+use Rattle.sf_words.specs.Words.{Text, Order, demo, journal, order_of, ranking, recheck, replay, run, verify, witness}
 
--- what has this status only comes where the program is proved: 0, and of runs 5 and 6
+-- what has this status only comes where the program is proved: 0, and of runs and their journals 5 and 6
 abbrev pub IsAccepting : (status : ℕ) → Type 0
 IsAccepting status = (status ≡ 0) ⊎ ((status ≡ 5) ⊎ (status ≡ 6))
 
@@ -36,6 +36,7 @@ AreProgram told (Some (demo procedures)) bytes = bytes ≡ made_text procedures
 AreProgram told (Some (ranking file)) bytes = MayHave told file bytes
 AreProgram told (Some (replay file entry state schedule)) bytes = MayHave told file bytes
 AreProgram told (Some (witness file)) bytes = MayHave told file bytes
+AreProgram told (Some (journal file entry state steps waits)) bytes = MayHave told file bytes
 AreProgram told None bytes = ⊥
 
 -- NamesSound: the words are an order about a program, whose bytes read as a program that is sound

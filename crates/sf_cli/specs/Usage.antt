@@ -9,4 +9,5 @@ usage_text =
     codes "usage: smallfoot verify FILE [--workers K]\n" ++ codes "       smallfoot recheck FILE PROOF\n"
     ++ codes "       smallfoot run FILE ENTRY STATE [--steps N] [--waits W]\n" ++ codes "       smallfoot demo N\n"
     ++ codes "       smallfoot replay FILE ENTRY STATE SCHEDULE\n"
+    ++ codes "       smallfoot journal FILE ENTRY STATE [--steps N] [--waits W]\n"
     ++ codes "       smallfoot witness FILE\n" ++ codes "       smallfoot order FILE\n"

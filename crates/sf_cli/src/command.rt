@@ -21,6 +21,21 @@ use std::alloc::{AllocError, Global};
 use std::sync::Wait;
 use std::thread::Threads;
 
+/// What a run is asked for, by the words and numbers of its order.
+fn run_words<'a>(entry: &'a str, state: &'a str, steps: u64, waits: u32, kept: bool) -> RunWords<'a>
+    ensures entry { result.procedure.now ≡ entry.entry.now }
+    ensures state { result.state.now ≡ state.entry.now }
+    ensures budget { (result.budget.steps ≡ steps) × (result.budget.waits ≡ waits) }
+    ensures kept { result.kept ≡ kept }
+{
+    RunWords {
+        procedure: entry,
+        state,
+        budget: Budget { steps, waits },
+        kept,
+    }
+}
+
 /// What the command says to an order.
 fn follow<R: Threads + Wait + Sync, S: Shelf, G: Gate>(
     rt: &R,
@@ -52,12 +67,7 @@ fn follow<R: Threads + Wait + Sync, S: Shelf, G: Gate>(
             steps,
             waits,
         } => {
-            let budget = Budget { steps, waits };
-            let words = RunWords {
-                procedure: entry,
-                state,
-                budget,
-            };
+            let words = run_words(entry, state, steps, waits, false);
             run_file(rt, alloc, file, &words, shelf, gate)
         }
         Order::Demo { procedures } => demonstrate(rt, alloc, procedures, gate),
@@ -76,6 +86,16 @@ fn follow<R: Threads + Wait + Sync, S: Shelf, G: Gate>(
             replay_file(alloc, file, &words, shelf)
         }
         Order::Witness { file } => witness_file(alloc, file, shelf),
+        Order::Journal {
+            file,
+            entry,
+            state,
+            steps,
+            waits,
+        } => {
+            let words = run_words(entry, state, steps, waits, true);
+            run_file(rt, alloc, file, &words, shelf, gate)
+        }
     }
 }
 

@@ -1,10 +1,14 @@
 //! Laws of answers. Each function is a law: calling it gives its fact to the caller's proof, and
 //! does nothing.
 
-ghost use Rattle.sf_cli.specs.Checked.Laws.{AcceptedFilesAreReplayedSafely, AcceptedFilesAreSound, AcceptedProofsAreSound, AcceptedRunsAreSound, EachCommandHasAnAnswer, EachCommandHasOneAnswer, EachDemoHasAnAnswer, EachDemoHasOneAnswer, EachFileHasAnAnswer, EachFileHasOneAnswer, EachFileIsDecided, EachFileIsOneProgram, EachProofHasAnAnswer, EachProofHasOneAnswer, EachRankingHasAnAnswer, EachRankingHasOneAnswer, EachReplayHasAnAnswer, EachReplayHasOneAnswer, EachRunHasAnAnswer, EachRunHasOneAnswer, EachWitnessHasAnAnswer, EachWitnessHasOneAnswer, FinishedRunsHaveEnded, ProvedProgramsAreReplayedSafely};
+ghost use Rattle.sf_cli.specs.Checked.Laws.{AcceptedFilesAreReplayedSafely, AcceptedFilesAreSound, AcceptedProofsAreSound, AcceptedRunsAreSound, EachCommandHasAnAnswer, EachCommandHasOneAnswer, EachDemoHasAnAnswer, EachDemoHasOneAnswer, EachFileHasAnAnswer, EachFileHasOneAnswer, EachFileIsDecided, EachFileIsOneProgram, EachJournalHasAnAnswer, EachJournalHasOneAnswer, EachProofHasAnAnswer, EachProofHasOneAnswer, EachRankingHasAnAnswer, EachRankingHasOneAnswer, EachReplayHasAnAnswer, EachReplayHasOneAnswer, EachRunHasAnAnswer, EachRunHasOneAnswer, EachWitnessHasAnAnswer, EachWitnessHasOneAnswer, FinishedRunsHaveEnded, JournalsReachTheirEnds, ProvedProgramsAreReplayedSafely};
 
 use sf_check::laws::{proves_not_refused, proves_or_refused, refused_once};
 use sf_elab::laws::elaborated_is_formed;
+use sf_journal::laws::{
+    logs_of_one_task_keep_its_order, merged_cells_are_empty, merged_logs_reach_the_same,
+    runs_have_journals,
+};
 use sf_lex::laws::each_file_reads_once;
 use sf_order::laws::{each_program_is_ordered, resources_are_listed_once};
 use sf_parse::laws::each_file_is_shallow;
@@ -14,8 +18,8 @@ use sf_replay::laws::{events_are_replayed_once, sound_runs_are_clean, starts_are
 use sf_rules::laws::{setting_exists, setting_is_unique};
 use sf_run::{
     bases_are_free, beginnings_are_starts, beginnings_are_unique, ends_are_numbered,
-    outcomes_are_unique, spent_runs_have_used_all, starts_have_one_outcome, units_stay_free,
-    waiting_runs_try_in_vain,
+    numbered_runs_reach, outcomes_are_unique, spent_runs_have_used_all, starts_have_one_outcome,
+    units_stay_free, waiting_runs_try_in_vain,
 };
 use sf_search::{programs_have_verdicts, taken_tags_prove, verdicts_are_unique};
 use sf_sound::proofs_are_sound;
@@ -123,6 +127,29 @@ pub fn each_run_has_an_answer()
     waiting_runs_try_in_vain();
     bases_are_free();
     units_stay_free();
+}
+
+/// A run whose events are told has at most one answer over the same files, where one is not of its
+/// tasks, or no parallel call can be reached.
+pub fn each_journal_has_one_answer()
+    ensures { EachJournalHasOneAnswer }
+{
+    each_file_is_decided();
+    entry_is_unique();
+    start_is_unique();
+    beginnings_are_unique();
+    logs_of_one_task_keep_its_order();
+    each_run_has_one_answer();
+}
+
+/// A run whose events are told has an answer, where the state's file is there and no parallel call
+/// can be reached.
+pub fn each_journal_has_an_answer()
+    ensures { EachJournalHasAnAnswer }
+{
+    each_run_has_an_answer();
+    numbered_runs_reach();
+    runs_have_journals();
 }
 
 /// `demo` has at most one answer.
@@ -242,6 +269,7 @@ pub fn each_command_has_an_answer()
     each_ranking_has_an_answer();
     each_replay_has_an_answer();
     each_witness_has_an_answer();
+    each_journal_has_an_answer();
 }
 
 /// Words have at most one answer over the same files, but for what comes of such runs.
@@ -257,6 +285,7 @@ pub fn each_command_has_one_answer()
     each_ranking_has_one_answer();
     each_replay_has_one_answer();
     each_witness_has_one_answer();
+    each_journal_has_one_answer();
 }
 
 /// Whatever bytes are answered with status 0 are those of a sound program.
@@ -293,3 +322,16 @@ pub fn accepted_runs_are_sound()
 pub fn finished_runs_have_ended()
     ensures { FinishedRunsHaveEnded }
 {}
+
+/// What is answered to a run whose events are told, with status 0, leads from the start to the end.
+pub fn journals_reach_their_ends()
+    ensures { JournalsReachTheirEnds }
+{
+    merged_logs_reach_the_same();
+    merged_cells_are_empty();
+    beginnings_are_starts();
+    each_file_is_shallow();
+    elaborated_is_formed();
+    taken_tags_prove();
+    proofs_are_sound();
+}

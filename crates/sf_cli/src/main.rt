@@ -8,7 +8,7 @@
 //! - `verify`: what the command says to `verify`
 //! - `recheck`: what it says to `recheck`
 //! - `rejection`: why such a text is refused, and the line that says so
-//! - `run`: what it says to `run`, in the order of its work
+//! - `run`: what it says to `run` and to `journal`, in the order of its work
 //! - `demo`: what it says to `demo`
 //! - `ranking`: what it says to `order`
 //! - `replay`: what it says to `replay`, in the order of its work
@@ -16,6 +16,7 @@
 //! - `found`: what is found of a schedule and why nothing is, printed
 //! - `start_refusal`: why there is no start, and the line that says so
 //! - `outcome`: what comes of a run, printed
+//! - `journal`: its end with the events by which it came there, printed
 //! - `command`: to each order its command
 //! - `writing`: what lines are put together from
 //! - `laws`: laws of answers
@@ -28,6 +29,7 @@ ghost use Rattle.sf_words.specs.WordsOf.{words_of};
 mod command;
 mod demo;
 mod found;
+mod journal;
 mod laws;
 mod outcome;
 mod ranking;

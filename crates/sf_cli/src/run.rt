@@ -1,5 +1,5 @@
-//! What the command says to `run`, in the order of its work: the verdict on the program, the entry,
-//! the text of the state, and what comes of that start.
+//! What the command says to `run` and to `journal`, in the order of its work: the verdict on the
+//! program, the entry, the text of the state, and what comes of that start.
 
 ghost use Rattle.std.specs.Prelude.{◌≡◌, ◌≢◌, ◌<◌, ◌≤◌, false, Some, IfOk, length};
 ghost use Rattle.sf_base.specs.declared.limits.TheConstants.{STEPS, WAITS};
@@ -8,17 +8,20 @@ ghost use Rattle.sf_core.specs.Program.Init.{sets_up};
 ghost use Rattle.sf_core.specs.Program.ProgramView.{program_of};
 ghost use Rattle.sf_foot.specs.Starting.{StartsWith};
 ghost use Rattle.sf_io.specs.Increased.{Increased};
-ghost use Rattle.sf_cli.specs.Answer.{AreRun, HasRun, IsProved, Reaches, Reply, RunAnswer, RunFileAnswer, read_fault_text};
+ghost use Rattle.sf_cli.specs.Answer.{AreRun, HasRun, IsProved, Reaches, Reply, RunAnswer, RunFileAnswer, RunFileJournal, RunJournal, read_fault_text};
 ghost use Rattle.sf_cli.specs.SoundFile.{MayHave};
+ghost use Rattle.sf_cli.specs.Checked.Kept.{KeptAnswer, run_order};
 ghost use Rattle.sf_cli.specs.Checked.Printed.{IsBeginText};
+ghost use Rattle.sf_cli.specs.Journaled.{StateJournal};
 ghost use Rattle.sf_cli.specs.Ran.{StateAnswer};
 ghost use Rattle.sf_cli.specs.StartRefusals.{start_refusal_text};
 ghost use Rattle.sf_run.specs.Running.{program_in};
 ghost use Rattle.sf_state.specs.Entering.{HoldsNone};
 ghost use Rattle.sf_state.specs.declared.fault.StartFault.TheVariants.{OutOfMemory};
-ghost use Rattle.sf_words.specs.Words.{Text, run};
+ghost use Rattle.sf_words.specs.Words.{Text};
 
-use crate::outcome::{say_finish, say_stop};
+use crate::journal::say_end;
+use crate::outcome::say_stop;
 use crate::reading::admit;
 use crate::reply::{Said, fetch_up_to, say_failure, say_of, say_refusal};
 use crate::start_refusal::start_refusal_text;
@@ -29,7 +32,7 @@ use sf_foot::Start;
 use sf_io::{FetchFault, Gate, Shelf};
 use sf_precise::Arranged;
 use sf_rules::laws::arranged_has_setting;
-use sf_run::{Budget, beginnings_are_unique, run};
+use sf_run::{Budget, beginnings_are_unique, run_kept};
 use sf_search::VerifyFault;
 use sf_state::{StartFault, entry, read};
 use sf_verify::verify;
@@ -46,6 +49,8 @@ pub struct RunWords<'a> {
     pub state: &'a str,
     /// What the run may use.
     pub budget: Budget,
+    /// Whether the events of the run are told after its end.
+    pub kept: bool,
 }
 
 /// The answer to a start of procedure `f`.
@@ -55,21 +60,22 @@ fn answer_to_start<R: Threads + Sync, G: Gate>(
     proof: &Proof<'_>,
     f: ProcId,
     start: Start,
-    budget: Budget,
+    words: &RunWords<'_>,
     gate: &G,
 ) -> Result<Said, AllocError>
     requires there { f.0 < length (arranged_in proof.now).program.procedures.items }
     requires starts { StartsWith (program_in proof.now) f start.fresh start.vars start.heap
         start.parts.items }
-    requires steps { (1 ≤ budget.steps) × (budget.steps ≤ STEPS) }
-    requires waits { (1 ≤ budget.waits) × (budget.waits ≤ WAITS) }
-    ensures { IfOk result (λ said. IsBeginText (program_in proof.now) f start.fresh start.vars
-        start.heap start.unit budget.steps budget.waits said.text.items said.status) }
+    requires steps { (1 ≤ words.now.budget.steps) × (words.now.budget.steps ≤ STEPS) }
+    requires waits { (1 ≤ words.now.budget.waits) × (words.now.budget.waits ≤ WAITS) }
+    ensures { IfOk result (λ said. IsBeginText words.now.kept (program_in proof.now) f start.fresh
+        start.vars start.heap start.unit words.now.budget.steps words.now.budget.waits
+        said.text.items said.status) }
 {
     beginnings_are_unique();
     let arranged = proof.arranged();
-    match run(rt, alloc, proof, f, start, budget, gate) {
-        Ok((end, _)) => say_finish(alloc, arranged, f, &end),
+    match run_kept(rt, alloc, proof, f, start, words.budget, gate, words.kept) {
+        Ok((end, _, log)) => say_end(alloc, arranged, f, &end, log, words.kept),
         Err(stop) => say_stop(alloc, &arranged.program, &stop),
     }
 }
@@ -94,20 +100,23 @@ fn answer_to_state<R: Threads + Sync, G: Gate>(
     proof: &Proof<'_>,
     f: ProcId,
     state: &[u8],
-    budget: Budget,
+    words: &RunWords<'_>,
     gate: &G,
 ) -> Result<Said, AllocError>
     requires there { f.0 < length (arranged_in proof.now).program.procedures.items }
     requires free { HoldsNone (program_in proof.now) f }
     requires other { sets_up (program_in proof.now) f ≡ false }
-    requires steps { (1 ≤ budget.steps) × (budget.steps ≤ STEPS) }
-    requires waits { (1 ≤ budget.waits) × (budget.waits ≤ WAITS) }
-    ensures { IfOk result (λ said. StateAnswer (program_in proof.now) f state.now
-        budget.steps budget.waits said.text.items said.status) }
+    requires steps { (1 ≤ words.now.budget.steps) × (words.now.budget.steps ≤ STEPS) }
+    requires waits { (1 ≤ words.now.budget.waits) × (words.now.budget.waits ≤ WAITS) }
+    ensures { IfOk result (λ said. KeptAnswer words.now.kept
+        (StateAnswer (program_in proof.now) f state.now words.now.budget.steps
+        words.now.budget.waits)
+        (StateJournal (program_in proof.now) f state.now words.now.budget.steps)
+        said.text.items said.status) }
 {
     let arranged = proof.arranged();
     match read(alloc, arranged, f, state) {
-        Ok(start) => answer_to_start(rt, alloc, proof, f, start, budget, gate),
+        Ok(start) => answer_to_start(rt, alloc, proof, f, start, words, gate),
         Err(fault) => say_no_start(alloc, &fault),
     }
 }
@@ -130,7 +139,9 @@ fn run_state_file<R: Threads + Sync, S: Shelf, G: Gate>(
     ensures status { IfOk result (λ said. said.status < 8) }
     ensures answered { IfOk result (λ said. said.status < 7
         → (given : Text) × MayHave (S.files shelf.old) words.now.state.now given
-        × StateAnswer (program_in proof.now) f given words.now.budget.steps words.now.budget.waits
+        × KeptAnswer words.now.kept
+        (StateAnswer (program_in proof.now) f given words.now.budget.steps words.now.budget.waits)
+        (StateJournal (program_in proof.now) f given words.now.budget.steps)
         said.text.items said.status) }
     ensures unread { IfOk result (λ said. said.status ≡ 7
         → Increased (S.faults shelf.old words.now.state.now)
@@ -144,7 +155,7 @@ fn run_state_file<R: Threads + Sync, S: Shelf, G: Gate>(
     ensures counts { (any : Text) → S.faults shelf.old any ≤ S.faults shelf.new any }
 {
     match fetch_up_to(alloc, words.state, STATE_BYTES, shelf) {
-        Ok(state) => answer_to_state(rt, alloc, proof, f, state.as_slice(), words.budget, gate),
+        Ok(state) => answer_to_state(rt, alloc, proof, f, state.as_slice(), words, gate),
         Err(FetchFault::Failed) => say_of(alloc, "read fault: ", words.state.as_bytes(), 7),
         Err(FetchFault::OutOfMemory) => Err(AllocError),
     }
@@ -165,9 +176,11 @@ fn run_proved<R: Threads + Sync, S: Shelf, G: Gate>(
     requires waits { (1 ≤ words.now.budget.waits) × (words.now.budget.waits ≤ WAITS) }
     ensures status { IfOk result (λ said. said.status < 8) }
     ensures answered { IfOk result (λ said. said.status < 7
-        → RunFileAnswer (S.files shelf.old) (program_in proof.now) words.now.procedure.now
-        words.now.state.now words.now.budget.steps words.now.budget.waits
-        said.text.items said.status) }
+        → KeptAnswer words.now.kept
+        (RunFileAnswer (S.files shelf.old) (program_in proof.now) words.now.procedure.now
+        words.now.state.now words.now.budget.steps words.now.budget.waits)
+        (RunFileJournal (S.files shelf.old) (program_in proof.now) words.now.procedure.now
+        words.now.state.now words.now.budget.steps) said.text.items said.status) }
     ensures unread { IfOk result (λ said. said.status ≡ 7
         → HasRun (program_in proof.now) words.now.procedure.now
         × Increased (S.faults shelf.old words.now.state.now)
@@ -203,8 +216,11 @@ fn run_program<R: Threads + Wait + Sync, G: Gate, S: Shelf>(
     requires waits { (1 ≤ words.now.budget.waits) × (words.now.budget.waits ≤ WAITS) }
     ensures status { IfOk result (λ said. said.status < 8) }
     ensures answered { IfOk result (λ said. said.status < 7
-        → RunFileAnswer (S.files shelf.old) (program_of arranged.now.program)
-        words.now.procedure.now words.now.state.now words.now.budget.steps words.now.budget.waits
+        → KeptAnswer words.now.kept
+        (RunFileAnswer (S.files shelf.old) (program_of arranged.now.program)
+        words.now.procedure.now words.now.state.now words.now.budget.steps words.now.budget.waits)
+        (RunFileJournal (S.files shelf.old) (program_of arranged.now.program)
+        words.now.procedure.now words.now.state.now words.now.budget.steps)
         said.text.items said.status) }
     ensures unread { IfOk result (λ said. said.status ≡ 7
         → HasRun (program_of arranged.now.program) words.now.procedure.now
@@ -242,8 +258,11 @@ fn run_bytes<R: Threads + Wait + Sync, S: Shelf, G: Gate>(
     requires waits { (1 ≤ words.now.budget.waits) × (words.now.budget.waits ≤ WAITS) }
     ensures status { IfOk result (λ said. said.status < 8) }
     ensures answered { IfOk result (λ said. said.status < 7
-        → RunAnswer (S.files shelf.old) bytes.now words.now.procedure.now words.now.state.now
-        words.now.budget.steps words.now.budget.waits said.text.items said.status) }
+        → KeptAnswer words.now.kept
+        (RunAnswer (S.files shelf.old) bytes.now words.now.procedure.now words.now.state.now
+        words.now.budget.steps words.now.budget.waits)
+        (RunJournal (S.files shelf.old) bytes.now words.now.procedure.now words.now.state.now
+        words.now.budget.steps) said.text.items said.status) }
     ensures unread { IfOk result (λ said. said.status ≡ 7
         → AreRun bytes.now words.now.procedure.now
         × Increased (S.faults shelf.old words.now.state.now)
@@ -263,7 +282,8 @@ fn run_bytes<R: Threads + Wait + Sync, S: Shelf, G: Gate>(
     }
 }
 
-/// What the command says to `run` of the file of that name.
+/// What the command says to `run`, or to `journal` where the events are to be told, of the file of
+/// that name.
 pub fn run_file<R: Threads + Wait + Sync, S: Shelf, G: Gate>(
     rt: &R,
     alloc: Global,
@@ -277,11 +297,11 @@ pub fn run_file<R: Threads + Wait + Sync, S: Shelf, G: Gate>(
     ensures status { IfOk result (λ said. said.status < 8) }
     ensures said { IfOk result (λ said.
         Reply (S.files shelf.old) (S.faults shelf.old) (S.faults shelf.new)
-        (Some (run file.now words.now.procedure.now words.now.state.now
+        (Some (run_order words.now.kept file.now words.now.procedure.now words.now.state.now
         words.now.budget.steps words.now.budget.waits)) said.text.items said.status) }
     ensures files { S.files shelf.new ≡ S.files shelf.old }
     ensures others { (other : Text)
-        → (Reaches (S.files shelf.old) (Some (run file.now words.now.procedure.now
+        → (Reaches (S.files shelf.old) (Some (run_order words.now.kept file.now words.now.procedure.now
         words.now.state.now words.now.budget.steps words.now.budget.waits)) other → ⊥)
         → S.faults shelf.new other ≡ S.faults shelf.old other }
     ensures quiet { IfOk result (λ said. said.status < 7

@@ -6,6 +6,8 @@ mod examples;
 mod fetches;
 mod files;
 mod forks;
+mod hostile;
+mod journals;
 mod numbers;
 mod orders;
 mod proofs;

@@ -11,7 +11,7 @@ ghost use Rattle.sf_words.specs.WordsOf.{words_of};
 use crate::command::respond;
 use crate::laws::{
     accepted_files_are_sound, accepted_proofs_are_sound, accepted_runs_are_sound,
-    finished_runs_have_ended,
+    finished_runs_have_ended, journals_reach_their_ends,
 };
 use crate::reply::Said;
 use sf_io::{Gate, Shelf, Sink, SinkFault, put_all};
@@ -56,7 +56,8 @@ fn tell<K: Sink>(sink: &mut K, said: &Said) -> u8
 ///
 /// Workers beside the first one are threads, and so are the tasks of a run beside the first one.
 /// Whatever the number of workers, the threads and the gate, the answer is the same, but of a run
-/// in which a parallel call can be reached: of that it is one that may come of its tasks.
+/// in which a parallel call can be reached: of that it is one that may come of its tasks. Where the
+/// events of a run are told, they are those of one of its interleavings.
 pub fn smallfoot<'a, R: Threads + Wait + Sync, S: Shelf, K: Sink, G: Gate>(
     rt: &R,
     alloc: Global,
@@ -104,7 +105,8 @@ pub fn smallfoot<'a, R: Threads + Wait + Sync, S: Shelf, K: Sink, G: Gate>(
         × (K.written sink.new ≡ with_bytes (K.written sink.old) text)
         × Accepted (S.files shelf.old) (words_of words.now) text result }
     // A run that is finished has ended, whatever its tasks: what is put is the state that a
-    // numbered list of events reaches from the start which was read.
+    // numbered list of events reaches from the start which was read. Where its events are told, the
+    // list that is put after that reaches it too.
     ensures ended { result ≡ 0 → (text : Text)
         × (K.written sink.new ≡ with_bytes (K.written sink.old) text)
         × Ended (S.files shelf.old) (order_of (words_of words.now)) text }
@@ -125,6 +127,7 @@ pub fn smallfoot<'a, R: Threads + Wait + Sync, S: Shelf, K: Sink, G: Gate>(
     accepted_proofs_are_sound();
     accepted_runs_are_sound();
     finished_runs_have_ended();
+    journals_reach_their_ends();
     match respond(rt, alloc, words, shelf, gate) {
         Ok(said) => tell(sink, &said),
         Err(_) => OUT_OF_MEMORY,

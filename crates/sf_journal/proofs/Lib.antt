@@ -8,6 +8,8 @@ pub mod Reorderings
 pub mod Told
 pub mod EntryOrder
 pub mod MergedLogs
+pub mod Placed
+pub mod InOrder
 pub mod Sorting
 pub mod EntrySort
 pub mod Lines

@@ -152,7 +152,7 @@ empty-cell : (fields : ℕ) → cell_of (replicate fields nil) ≡ (λ field. ni
 empty-cell fields = λ i field. replicate-default nil fields field i
 
 -- its events are those that the entries tell of
-scheduled-events : (fields line : ℕ) (entries : List Stamped)
+pub scheduled-events : (fields line : ℕ) (entries : List Stamped)
     → events_of (scheduled_from fields line entries) ≡ map event_told entries
 scheduled-events fields line [] = refl
 scheduled-events fields line (e ∷ entries) =

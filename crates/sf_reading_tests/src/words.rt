@@ -12,7 +12,7 @@ fn words_are_their_orders(rt: HostRuntime) {
         file: "a",
         workers: 4,
     };
-    let cases: [(&[&str], Order); 17] = [
+    let cases: [(&[&str], Order); 19] = [
         (&["verify", "a"], verify),
         (&["verify", "--", "a"], verify),
         (&["verify", "a", "--"], verify),
@@ -88,6 +88,26 @@ fn words_are_their_orders(rt: HostRuntime) {
                 schedule: "d",
             },
         ),
+        (
+            &["journal", "a", "b", "c"],
+            Order::Journal {
+                file: "a",
+                entry: "b",
+                state: "c",
+                steps: 1_000_000,
+                waits: 1_000_000,
+            },
+        ),
+        (
+            &["journal", "a", "--waits=3", "b", "--steps", "2", "--", "-c"],
+            Order::Journal {
+                file: "a",
+                entry: "b",
+                state: "-c",
+                steps: 2,
+                waits: 3,
+            },
+        ),
     ];
     for (words, order) in cases {
         assert!(rt; read(rt.alloc(), words) == Ok(order));
@@ -96,7 +116,7 @@ fn words_are_their_orders(rt: HostRuntime) {
 
 #[test]
 fn other_words_are_refused(rt: HostRuntime) {
-    let cases: [&[&str]; 41] = [
+    let cases: [&[&str]; 44] = [
         &[],
         &["--help"],
         &["help"],
@@ -136,6 +156,9 @@ fn other_words_are_refused(rt: HostRuntime) {
         &["replay", "a", "b", "c", ""],
         &["replay", "a", "b", "c", "d", "e"],
         &["replay", "a", "b", "c", "d", "--steps=1"],
+        &["journal", "a", "b"],
+        &["journal", "a", "b", "c", "--workers=1"],
+        &["journal", "a", "b", "c", "--steps=0"],
         &["demo", "0"],
         &["demo", "1001"],
     ];

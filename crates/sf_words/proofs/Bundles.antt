@@ -5,7 +5,7 @@ use Rattle.std.specs.Prelude.{option_and_then}
 use Rattle.std.specs.Str.{bytes_eq}
 use Rattle.sf_base.proofs.Equality.{bytes_eq-same}
 use Rattle.sf_words.specs.Checked.Screen.{has_bundle, is_bundle}
-use Rattle.sf_words.specs.Words.{Given, Order, Part, Text, begins_with_hyphen, dashes, demo_given, due_behind, ending, given, given_with, is_among, is_blank, no_options, operand, option_of, order_of, order_of_command, outside, part_of, part_of_option, ranking_given, recheck_given, replay_given, run_given, run_options, setting, verify_given, verify_options, witness_given}
+use Rattle.sf_words.specs.Words.{Given, Order, Part, Text, begins_with_hyphen, dashes, demo_given, due_behind, ending, given, given_with, is_among, is_blank, journal_given, no_options, operand, option_of, order_of, order_of_command, outside, part_of, part_of_option, ranking_given, recheck_given, replay_given, run_given, run_options, setting, verify_given, verify_options, witness_given}
 
 module _ (names : List Text) where
   -- a bundle may not stand there
@@ -74,7 +74,7 @@ command-none : (w : Text) (words : List Text) → has_bundle (w ∷ words) ≡ t
 command-none w words e =
     go (bytes_eq (codes "verify") w) refl (bytes_eq (codes "recheck") w) refl (bytes_eq (codes "run") w) refl (bytes_eq (codes "demo") w) refl
     (bytes_eq (codes "order") w) refl (bytes_eq (codes "replay") w) refl
-    (bytes_eq (codes "witness") w) refl
+    (bytes_eq (codes "witness") w) refl (bytes_eq (codes "journal") w) refl
   where
     rest : (name : Text) → bytes_eq name w ≡ true → (has_bundle (name ∷ words) ≡ true → has_bundle words ≡ true) → has_bundle words ≡ true
     rest name f h = h (ap (λ (x : Text). has_bundle (x ∷ words)) (bytes_eq-same name w f) ∙ e)
@@ -82,18 +82,21 @@ command-none w words e =
     go : (a : Bool) → bytes_eq (codes "verify") w ≡ a → (b : Bool) → bytes_eq (codes "recheck") w ≡ b → (d : Bool) → bytes_eq (codes "run") w ≡ d
         → (f : Bool) → bytes_eq (codes "demo") w ≡ f → (g : Bool) → bytes_eq (codes "order") w ≡ g
         → (h : Bool) → bytes_eq (codes "replay") w ≡ h → (k : Bool) → bytes_eq (codes "witness") w ≡ k
+        → (j : Bool) → bytes_eq (codes "journal") w ≡ j
         → order_of_command w words ≡ None
-    go true e₁ b e₂ d e₃ f e₄ g e₅ h e₆ k e₇ = rw e₁ (ap (option_and_then verify_given) (bundle-gives verify_options None words (rest (codes "verify") e₁ (λ h. h))))
-    go false e₁ true e₂ d e₃ f e₄ g e₅ h e₆ k e₇ = rw (e₁, e₂) (ap (option_and_then recheck_given) (bundle-gives no_options None words (rest (codes "recheck") e₂ (λ h. h))))
-    go false e₁ false e₂ true e₃ f e₄ g e₅ h e₆ k e₇ = rw (e₁, e₂, e₃) (ap (option_and_then run_given) (bundle-gives run_options None words (rest (codes "run") e₃ (λ h. h))))
-    go false e₁ false e₂ false e₃ true e₄ g e₅ h e₆ k e₇ = rw (e₁, e₂, e₃, e₄) (ap (option_and_then demo_given) (bundle-gives no_options None words (rest (codes "demo") e₄ (λ h. h))))
-    go false e₁ false e₂ false e₃ false e₄ true e₅ h e₆ k e₇ =
+    go true e₁ b e₂ d e₃ f e₄ g e₅ h e₆ k e₇ j e₈ = rw e₁ (ap (option_and_then verify_given) (bundle-gives verify_options None words (rest (codes "verify") e₁ (λ h. h))))
+    go false e₁ true e₂ d e₃ f e₄ g e₅ h e₆ k e₇ j e₈ = rw (e₁, e₂) (ap (option_and_then recheck_given) (bundle-gives no_options None words (rest (codes "recheck") e₂ (λ h. h))))
+    go false e₁ false e₂ true e₃ f e₄ g e₅ h e₆ k e₇ j e₈ = rw (e₁, e₂, e₃) (ap (option_and_then run_given) (bundle-gives run_options None words (rest (codes "run") e₃ (λ h. h))))
+    go false e₁ false e₂ false e₃ true e₄ g e₅ h e₆ k e₇ j e₈ = rw (e₁, e₂, e₃, e₄) (ap (option_and_then demo_given) (bundle-gives no_options None words (rest (codes "demo") e₄ (λ h. h))))
+    go false e₁ false e₂ false e₃ false e₄ true e₅ h e₆ k e₇ j e₈ =
         rw (e₁, e₂, e₃, e₄, e₅) (ap (option_and_then ranking_given) (bundle-gives no_options None words (rest (codes "order") e₅ (λ h. h))))
-    go false e₁ false e₂ false e₃ false e₄ false e₅ true e₆ k e₇ =
+    go false e₁ false e₂ false e₃ false e₄ false e₅ true e₆ k e₇ j e₈ =
         rw (e₁, e₂, e₃, e₄, e₅, e₆) (ap (option_and_then replay_given) (bundle-gives no_options None words (rest (codes "replay") e₆ (λ h. h))))
-    go false e₁ false e₂ false e₃ false e₄ false e₅ false e₆ true e₇ =
+    go false e₁ false e₂ false e₃ false e₄ false e₅ false e₆ true e₇ j e₈ =
         rw (e₁, e₂, e₃, e₄, e₅, e₆, e₇) (ap (option_and_then witness_given) (bundle-gives no_options None words (rest (codes "witness") e₇ (λ h. h))))
-    go false e₁ false e₂ false e₃ false e₄ false e₅ false e₆ false e₇ = rw (e₁, e₂, e₃, e₄, e₅, e₆, e₇) refl
+    go false e₁ false e₂ false e₃ false e₄ false e₅ false e₆ false e₇ true e₈ =
+        rw (e₁, e₂, e₃, e₄, e₅, e₆, e₇, e₈) (ap (option_and_then journal_given) (bundle-gives run_options None words (rest (codes "journal") e₈ (λ h. h))))
+    go false e₁ false e₂ false e₃ false e₄ false e₅ false e₆ false e₇ false e₈ = rw (e₁, e₂, e₃, e₄, e₅, e₆, e₇, e₈) refl
 
 pub bundle-none : (words : List Text) → has_bundle words ≡ true → order_of words ≡ None
 bundle-none [] e = refl

@@ -19,7 +19,7 @@ use Rattle.sf_words.proofs.Sorts.{Tidy, plain-dashes, plain-long, plain-short, t
 use Rattle.sf_words.proofs.Walks.{Claims}
 use Rattle.sf_words.specs.Checked.Forms.{operands_id, program_form, silent, values_at}
 use Rattle.sf_words.specs.Checked.Found.{met_order, order_found}
-use Rattle.sf_words.specs.Words.{Given, Order, Text, begins_with_hyphen, dashes, demo_given, demo_of, given, is_among, is_blank, no_options, order_of, order_of_command, ranking_given, ranking_of, recheck_given, recheck_of, replay_given, replay_of, run_given, run_of, run_options, steps_of, values_of, verify_given, verify_of, verify_options, waits_of, witness_given, witness_of, workers_of}
+use Rattle.sf_words.specs.Words.{Given, Order, Text, begins_with_hyphen, dashes, demo_given, demo_of, given, is_among, is_blank, journal_given, journal_of, no_options, order_of, order_of_command, ranking_given, ranking_of, recheck_given, recheck_of, replay_given, replay_of, run_given, run_of, run_options, steps_of, values_of, verify_given, verify_of, verify_options, waits_of, witness_given, witness_of, workers_of}
 
 -- the program once it is built
 abbrev top : Shape
@@ -30,7 +30,7 @@ program = record {
   top = top;
   subs = level (codes "verify") verify_options ∷ level (codes "recheck") no_options ∷ level (codes "run") run_options ∷ level (codes "demo") no_options
       ∷ level (codes "order") no_options ∷ level (codes "replay") no_options
-      ∷ level (codes "witness") no_options ∷ [];
+      ∷ level (codes "witness") no_options ∷ level (codes "journal") run_options ∷ [];
 }
 
 built-is : built program_form ≡ program
@@ -179,6 +179,14 @@ witness-agrees words t = command-agrees (codes "witness") no_options refl witnes
     (entered-fault (codes "witness") (codes "witness") words refl refl ∙ or_else-nil (level_fault (level (codes "witness") no_options) [] nothing_held words false []))
     (entered-met (codes "witness") (codes "witness") words refl refl) refl t.full (tidy-rest (codes "witness") words refl t)
 
+journal-agrees : (words : List Text) → Tidy (codes "journal" ∷ words) → Agrees (codes "journal" ∷ words)
+unfolding walked defaults_fault
+journal-agrees words t = command-agrees (codes "journal") run_options refl journal_given words
+    (λ g rows fits. ap₂ (λ (x y : List Text). journal_of x (steps_of y) (waits_of (values_at (codes "waits") rows))) fits.0 (fits.1 (codes "steps") refl)
+    ∙ ap (λ (x : List Text). journal_of g.operands (steps_of (values_of (codes "steps") g.settings)) (waits_of x)) (fits.1 (codes "waits") refl))
+    (entered-fault (codes "journal") (codes "journal") words refl refl ∙ or_else-nil (level_fault (level (codes "journal") run_options) [] nothing_held words false []))
+    (entered-met (codes "journal") (codes "journal") words refl refl) refl t.full (tidy-rest (codes "journal") words refl t)
+
 -- ---- another word
 
 cons-nil : (k : ErrorKind) (ks : Kinds) → k ∷ ks ≡ [] → ⊥
@@ -200,9 +208,9 @@ flag-fault x xs words = begin kind.UnknownArgument [] ((45 ∷ 45 ∷ x ∷ xs) 
 module _ (w : Text) (words : List Text) (no_verify : bytes_eq (codes "verify") w ≡ false) (no_recheck : bytes_eq (codes "recheck") w ≡ false)
     (no_run : bytes_eq (codes "run") w ≡ false) (no_demo : bytes_eq (codes "demo") w ≡ false)
     (no_order : bytes_eq (codes "order") w ≡ false) (no_replay : bytes_eq (codes "replay") w ≡ false)
-    (no_witness : bytes_eq (codes "witness") w ≡ false) where
+    (no_witness : bytes_eq (codes "witness") w ≡ false) (no_journal : bytes_eq (codes "journal") w ≡ false) where
   word-turn : begins_with_hyphen w ≡ false → turn_fault top names start w ≡ kind.UnknownArgument ∷ kind.InvalidSubcommand ∷ []
-  word-turn e = rw (no_verify, no_recheck, no_run, no_demo, no_order, no_replay, no_witness, plain-dashes w e, plain-long w e, plain-short w e) refl
+  word-turn e = rw (no_verify, no_recheck, no_run, no_demo, no_order, no_replay, no_witness, no_journal, plain-dashes w e, plain-long w e, plain-short w e) refl
 
   word-fault : begins_with_hyphen w ≡ false → fault_of program_form (w ∷ words) ≡ [] → ⊥
   unfolding walk_fault
@@ -219,7 +227,7 @@ module _ (w : Text) (words : List Text) (no_verify : bytes_eq (codes "verify") w
   ]
 
   other-order : order_of_command w words ≡ None
-  other-order = rw (no_verify, no_recheck, no_run, no_demo, no_order, no_replay, no_witness) refl
+  other-order = rw (no_verify, no_recheck, no_run, no_demo, no_order, no_replay, no_witness, no_journal) refl
 
   other-agrees : Tidy (w ∷ words) → Agrees (w ∷ words)
   other-agrees t = record {
@@ -240,7 +248,7 @@ agrees [] t = nothing-agrees
 agrees (w ∷ words) t =
     go (bytes_eq (codes "verify") w) refl (bytes_eq (codes "recheck") w) refl (bytes_eq (codes "run") w) refl (bytes_eq (codes "demo") w) refl
     (bytes_eq (codes "order") w) refl (bytes_eq (codes "replay") w) refl
-    (bytes_eq (codes "witness") w) refl
+    (bytes_eq (codes "witness") w) refl (bytes_eq (codes "journal") w) refl
   where
     named : (name : Text) → bytes_eq name w ≡ true → (Tidy (name ∷ words) → Agrees (name ∷ words)) → Agrees (w ∷ words)
     named name e h = subst (λ (x : Text). Tidy (x ∷ words) → Agrees (x ∷ words)) (bytes_eq-same name w e) h t
@@ -248,12 +256,13 @@ agrees (w ∷ words) t =
     go : (a : Bool) → bytes_eq (codes "verify") w ≡ a → (b : Bool) → bytes_eq (codes "recheck") w ≡ b → (d : Bool) → bytes_eq (codes "run") w ≡ d
         → (f : Bool) → bytes_eq (codes "demo") w ≡ f → (g : Bool) → bytes_eq (codes "order") w ≡ g
         → (h : Bool) → bytes_eq (codes "replay") w ≡ h → (k : Bool) → bytes_eq (codes "witness") w ≡ k
-        → Agrees (w ∷ words)
-    go true e b e₂ d e₃ f e₄ g e₅ h e₆ k e₇ = named (codes "verify") e (verify-agrees words)
-    go false e true e₂ d e₃ f e₄ g e₅ h e₆ k e₇ = named (codes "recheck") e₂ (recheck-agrees words)
-    go false e false e₂ true e₃ f e₄ g e₅ h e₆ k e₇ = named (codes "run") e₃ (run-agrees words)
-    go false e false e₂ false e₃ true e₄ g e₅ h e₆ k e₇ = named (codes "demo") e₄ (demo-agrees words)
-    go false e false e₂ false e₃ false e₄ true e₅ h e₆ k e₇ = named (codes "order") e₅ (order-agrees words)
-    go false e false e₂ false e₃ false e₄ false e₅ true e₆ k e₇ = named (codes "replay") e₆ (replay-agrees words)
-    go false e false e₂ false e₃ false e₄ false e₅ false e₆ true e₇ = named (codes "witness") e₇ (witness-agrees words)
-    go false e false e₂ false e₃ false e₄ false e₅ false e₆ false e₇ = other-agrees w words e e₂ e₃ e₄ e₅ e₆ e₇ t
+        → (j : Bool) → bytes_eq (codes "journal") w ≡ j → Agrees (w ∷ words)
+    go true e b e₂ d e₃ f e₄ g e₅ h e₆ k e₇ j e₈ = named (codes "verify") e (verify-agrees words)
+    go false e true e₂ d e₃ f e₄ g e₅ h e₆ k e₇ j e₈ = named (codes "recheck") e₂ (recheck-agrees words)
+    go false e false e₂ true e₃ f e₄ g e₅ h e₆ k e₇ j e₈ = named (codes "run") e₃ (run-agrees words)
+    go false e false e₂ false e₃ true e₄ g e₅ h e₆ k e₇ j e₈ = named (codes "demo") e₄ (demo-agrees words)
+    go false e false e₂ false e₃ false e₄ true e₅ h e₆ k e₇ j e₈ = named (codes "order") e₅ (order-agrees words)
+    go false e false e₂ false e₃ false e₄ false e₅ true e₆ k e₇ j e₈ = named (codes "replay") e₆ (replay-agrees words)
+    go false e false e₂ false e₃ false e₄ false e₅ false e₆ true e₇ j e₈ = named (codes "witness") e₇ (witness-agrees words)
+    go false e false e₂ false e₃ false e₄ false e₅ false e₆ false e₇ true e₈ = named (codes "journal") e₈ (journal-agrees words)
+    go false e false e₂ false e₃ false e₄ false e₅ false e₆ false e₇ false e₈ = other-agrees w words e e₂ e₃ e₄ e₅ e₆ e₇ e₈ t

@@ -7,7 +7,7 @@ use Rattle.std.specs.Str.{bytes_eq}
 use Rattle.std.specs.Str.Parse.{digits_value}
 use Rattle.std.proofs.lemmas.Bool.Decides.{nat_tests}
 use Rattle.sf_base.specs.declared.limits.TheConstants.{DEFAULT_STEPS, DEFAULT_WAITS, DEMO, STEPS, WAITS, WORKERS}
-use Rattle.sf_words.specs.Words.{Given, HasNumbersInRange, Order, Text, chosen_of, demo, demo_given, demo_of, given, is_blank, is_numeral, no_options, number_of, order_of, order_of_command, ranking_given, ranking_of, recheck_given, recheck_of, replay_given, replay_of, run_given, run_of, run_options, steps_of, values_of, verify_given, verify_of, verify_options, waits_of, witness_given, witness_of, workers_of}
+use Rattle.sf_words.specs.Words.{Given, HasNumbersInRange, Order, Text, chosen_of, demo, demo_given, demo_of, given, is_blank, is_numeral, journal_given, journal_of, no_options, number_of, order_of, order_of_command, ranking_given, ranking_of, recheck_given, recheck_of, replay_given, replay_of, run_given, run_of, run_options, steps_of, values_of, verify_given, verify_of, verify_options, waits_of, witness_given, witness_of, workers_of}
 use Rattle.sf_words.specs.WordsOf.{order_as}
 use Rattle.sf_words.specs.declared.order.Order.{Order as CodeOrder}
 use Rattle.sf_words.specs.declared.order.WordFault.{WordFault}
@@ -95,6 +95,16 @@ range-witness [] = tt
 range-witness (file ∷ []) = tt
 range-witness (file ∷ other ∷ more) = tt
 
+range-journal : (operands : List Text) (steps waits : Option ℕ) → IsUpTo STEPS steps → IsUpTo WAITS waits
+    → IsRanged (journal_of operands steps waits)
+range-journal [] steps waits h k = tt
+range-journal (file ∷ []) steps waits h k = tt
+range-journal (file ∷ entry ∷ []) steps waits h k = tt
+range-journal (file ∷ entry ∷ state ∷ []) None waits h k = tt
+range-journal (file ∷ entry ∷ state ∷ []) (Some steps) None h k = tt
+range-journal (file ∷ entry ∷ state ∷ []) (Some steps) (Some waits) h k = (h.0, h.1, k.0, k.1)
+range-journal (file ∷ entry ∷ state ∷ other ∷ more) steps waits h k = tt
+
 range-then : (f : Given → Option Order) (o : Option Given) → ((g : Given) → IsRanged (f g))
     → IsRanged (option_and_then f o)
 range-then f None h = tt
@@ -121,7 +131,13 @@ range-command command words =
     (range-either IsRanged (bytes_eq (codes "replay") command) _ _
     (range-then replay_given (given no_options None words) (λ g. range-replay g.operands))
     (range-either IsRanged (bytes_eq (codes "witness") command) _ _
-    (range-then witness_given (given no_options None words) (λ g. range-witness g.operands)) tt))))))
+    (range-then witness_given (given no_options None words) (λ g. range-witness g.operands))
+    (range-either IsRanged (bytes_eq (codes "journal") command) _ _
+    (range-then journal_given (given run_options None words)
+    (λ g. range-journal g.operands (steps_of (values_of (codes "steps") g.settings))
+    (waits_of (values_of (codes "waits") g.settings))
+    (range-chosen STEPS DEFAULT_STEPS (omega arith) (omega arith) (values_of (codes "steps") g.settings))
+    (range-chosen WAITS DEFAULT_WAITS (omega arith) (omega arith) (values_of (codes "waits") g.settings)))) tt)))))))
 
 range-order : (words : List Text) → IsRanged (order_of words)
 range-order [] = tt

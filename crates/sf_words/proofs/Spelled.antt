@@ -10,7 +10,7 @@ use Rattle.std.proofs.lemmas.List.{length-append}
 use Rattle.std.proofs.lemmas.List.Folds.{list_all-append}
 use Rattle.sf_base.specs.declared.limits.TheConstants.{DEMO, STEPS, WAITS, WORKERS}
 use Rattle.sf_words.specs.Checked.Laws.{EachOrderIsSpelled}
-use Rattle.sf_words.specs.Words.{Text, dashes, demo, is_blank, number_of, order_of, ranking, recheck, replay, run, run_of, verify, witness}
+use Rattle.sf_words.specs.Words.{Text, dashes, demo, is_blank, journal, journal_of, number_of, order_of, ranking, recheck, replay, run, run_of, verify, witness}
 
 -- ---- a numeral for each number
 
@@ -92,6 +92,14 @@ spelled-witness : (file : Text) → is_blank file ≡ false
     → order_of (codes "witness" ∷ dashes ∷ file ∷ []) ≡ Some (witness file)
 spelled-witness file e = ap (λ (a : Bool). cond (a || false) None (Some (witness file))) e
 
+spelled-journal : (file entry state : Text) (n k : ℕ) (s : Numeral 15 n) (t : Numeral 15 k) → is_blank file ≡ false → is_blank entry ≡ false → is_blank state ≡ false
+    → 1 ≤ n → n ≤ STEPS → 1 ≤ k → k ≤ WAITS
+    → order_of (codes "journal" ∷ (codes "--steps=" ++ s.text) ∷ (codes "--waits=" ++ t.text) ∷ dashes ∷ file ∷ entry ∷ state ∷ []) ≡ Some (journal file entry state n k)
+spelled-journal file entry state n k s t e f g some few some_waits few_waits =
+    ap₂ (λ (a b : Bool). cond (a || (b || (is_blank state || false))) None (journal_of (file ∷ entry ∷ state ∷ []) (number_of STEPS s.text) (number_of WAITS t.text))) e f
+    ∙ ap (λ (d : Bool). cond (d || false) None (journal_of (file ∷ entry ∷ state ∷ []) (number_of STEPS s.text) (number_of WAITS t.text))) g
+    ∙ ap₂ (λ (x y : Option ℕ). journal_of (file ∷ entry ∷ state ∷ []) x y) (numeral-number STEPS n s some few) (numeral-number WAITS k t some_waits few_waits)
+
 pub each_order_is_spelled : EachOrderIsSpelled
 each_order_is_spelled (verify file k) m =
     let t = numeral 15 k (omega (arith, m.1.1)) in
@@ -110,3 +118,9 @@ each_order_is_spelled (ranking file) m = (codes "order" ∷ dashes ∷ file ∷ 
 each_order_is_spelled (replay file entry state schedule) m =
     (codes "replay" ∷ dashes ∷ file ∷ entry ∷ state ∷ schedule ∷ [], spelled-replay file entry state schedule m.0.0 m.0.1 m.0.2 m.0.3)
 each_order_is_spelled (witness file) m = (codes "witness" ∷ dashes ∷ file ∷ [], spelled-witness file m.0)
+each_order_is_spelled (journal file entry state n k) m =
+    let s = numeral 15 n (omega (arith, m.1.1)) in
+    let t = numeral 15 k (omega (arith, m.1.3)) in (
+      codes "journal" ∷ (codes "--steps=" ++ s.text) ∷ (codes "--waits=" ++ t.text) ∷ dashes ∷ file ∷ entry ∷ state ∷ [],
+      spelled-journal file entry state n k s t m.0.0 m.0.1 m.0.2 m.1.0 m.1.1 m.1.2 m.1.3,
+    )

@@ -22,6 +22,7 @@ pub data Order : Type 0 where
   ranking : (file : Text) → Order
   replay : (file entry state schedule : Text) → Order
   witness : (file : Text) → Order
+  journal : (file entry state : Text) (steps waits : ℕ) → Order
 
 -- the numbers of an order are from 1 to their limits
 abbrev pub HasNumbersInRange : Order → Type 0
@@ -33,6 +34,8 @@ HasNumbersInRange (demo procedures) = (1 ≤ procedures) × (procedures ≤ DEMO
 HasNumbersInRange (ranking file) = Unit {0}
 HasNumbersInRange (replay file entry state schedule) = Unit {0}
 HasNumbersInRange (witness file) = Unit {0}
+HasNumbersInRange (journal file entry state steps waits) =
+    (1 ≤ steps) × (steps ≤ STEPS) × (1 ≤ waits) × (waits ≤ WAITS)
 
 -- ---- single words
 
@@ -193,7 +196,13 @@ abbrev pub witness_of : (operands : List Text) → Option Order
 witness_of (file ∷ []) = Some (witness file)
 witness_of _ = None
 
--- the options of `verify`, of `run`, and of the others
+-- `journal FILE ENTRY STATE [--steps N] [--waits W]`
+abbrev pub journal_of : (operands : List Text) → (steps waits : Option ℕ) → Option Order
+journal_of (file ∷ entry ∷ state ∷ []) (Some steps) (Some waits) =
+    Some (journal file entry state steps waits)
+journal_of _ steps waits = None
+
+-- the options of `verify`, of `run` and `journal`, and of the others
 abbrev pub verify_options : List Text
 verify_options = codes "workers" ∷ []
 
@@ -236,6 +245,10 @@ replay_given g = replay_of g.operands
 abbrev pub witness_given : Given → Option Order
 witness_given g = witness_of g.operands
 
+abbrev pub journal_given : Given → Option Order
+journal_given g = journal_of g.operands (steps_of (values_of (codes "steps") g.settings))
+    (waits_of (values_of (codes "waits") g.settings))
+
 -- the order of a command's word and the words behind it
 abbrev pub order_of_command : Text → List Text → Option Order
 order_of_command command words =
@@ -252,7 +265,9 @@ order_of_command command words =
     else (if bytes_eq (codes "replay") command
     then option_and_then replay_given (given no_options None words)
     else (if bytes_eq (codes "witness") command
-    then option_and_then witness_given (given no_options None words) else None))))))
+    then option_and_then witness_given (given no_options None words)
+    else (if bytes_eq (codes "journal") command
+    then option_and_then journal_given (given run_options None words) else None)))))))
 
 -- the order that the words are, if they are one: the first is the command's, and no word is blank
 abbrev pub order_of : List Text → Option Order

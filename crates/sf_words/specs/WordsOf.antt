@@ -3,8 +3,8 @@
 use Rattle.std.specs.Prelude.{Option, Some, None, List, map}
 use Rattle.std.specs.Borrow.{Bor}
 use Rattle.sf_words.specs.declared.order.Order.{Order as CodeOrder}
-use Rattle.sf_words.specs.declared.order.Order.TheVariants.{Verify, Recheck, Run, Demo, Ranking, Replay, Witness}
-use Rattle.sf_words.specs.Words.{Text, Order, verify, recheck, run, demo, ranking, replay, witness}
+use Rattle.sf_words.specs.declared.order.Order.TheVariants.{Verify, Recheck, Run, Demo, Ranking, Replay, Witness, Journal}
+use Rattle.sf_words.specs.Words.{Text, Order, verify, recheck, run, demo, ranking, replay, witness, journal}
 
 -- the words
 abbrev pub words_of : List (Bor Text) → List Text
@@ -19,6 +19,7 @@ order_as (Demo procedures) = demo procedures
 order_as (Ranking file) = ranking file.now
 order_as (Replay file entry state schedule) = replay file.now entry.now state.now schedule.now
 order_as (Witness file) = witness file.now
+order_as (Journal file entry state steps waits) = journal file.now entry.now state.now steps waits
 
 -- an order of the code, if there is one
 abbrev pub order_in : Option CodeOrder → Option Order

@@ -31,9 +31,10 @@ fn verify<'a>(alloc: Global) -> Result<Command<'a>, AllocError>
     Ok(command)
 }
 
-/// `run` with its options, of which each value is kept. An `Err` says that memory ran out.
-fn run<'a>(alloc: Global) -> Result<Command<'a>, AllocError>
-    ensures { IfOk result (IsAddedAs run_form) }
+/// A command that runs a procedure, with its options, of which each value is kept. An `Err` says that
+/// memory ran out.
+fn run<'a>(alloc: Global, name: &'a str) -> Result<Command<'a>, AllocError>
+    ensures { IfOk result (IsAddedAs (run_form name.entry.now)) }
 {
     let operands = Arg::new(alloc, OPERANDS).action(ArgAction::Append);
     let steps = Arg::new(alloc, "steps")
@@ -42,7 +43,7 @@ fn run<'a>(alloc: Global) -> Result<Command<'a>, AllocError>
     let waits = Arg::new(alloc, "waits")
         .long("waits")
         .action(ArgAction::Append);
-    let bare = Command::new(alloc, "run").arg(operands)?;
+    let bare = Command::new(alloc, name).arg(operands)?;
     let first = bare.arg(steps)?;
     let command = first.arg(waits)?;
     Ok(command)
@@ -61,7 +62,8 @@ pub(crate) fn program<'a>(alloc: Global) -> Result<Command<'a>, AllocError>
         .subcommand_required(true);
     let verify = verify(alloc)?;
     let recheck = bare(alloc, "recheck")?;
-    let run = run(alloc)?;
+    let journal = run(alloc, "journal")?;
+    let run = run(alloc, "run")?;
     let demo = bare(alloc, "demo")?;
     let order = bare(alloc, "order")?;
     let replay = bare(alloc, "replay")?;
@@ -72,6 +74,7 @@ pub(crate) fn program<'a>(alloc: Global) -> Result<Command<'a>, AllocError>
     let four = three.subcommand(demo)?;
     let five = four.subcommand(order)?;
     let six = five.subcommand(replay)?;
-    let all = six.subcommand(witness)?;
+    let seven = six.subcommand(witness)?;
+    let all = seven.subcommand(journal)?;
     Ok(all)
 }

@@ -1,7 +1,7 @@
 ghost use Rattle.std.specs.Prelude.{◌≡◌};
 ghost use Rattle.clap.specs.Words.{found_of, rows_of};
 ghost use Rattle.sf_words.specs.Checked.Found.{order_found, texts_under};
-ghost use Rattle.sf_words.specs.Words.{demo_of, ranking_of, recheck_of, replay_of, run_of, steps_of, verify_of, waits_of, witness_of, workers_of};
+ghost use Rattle.sf_words.specs.Words.{demo_of, journal_of, ranking_of, recheck_of, replay_of, run_of, steps_of, verify_of, waits_of, witness_of, workers_of};
 ghost use Rattle.sf_words.specs.WordsOf.{order_in};
 
 use crate::forms::OPERANDS;
@@ -110,6 +110,31 @@ fn witness<'a>(operands: Option<&[&'a str]>) -> Option<Order<'a>>
     }
 }
 
+/// `journal FILE ENTRY STATE [--steps N] [--waits W]`, by the operands and the values of its options.
+fn journal<'a>(
+    operands: Option<&[&'a str]>,
+    steps: Option<&[&str]>,
+    waits: Option<&[&str]>,
+) -> Option<Order<'a>>
+    ensures { order_in result ≡ journal_of (texts_under operands.entry)
+        (steps_of (texts_under steps.entry)) (waits_of (texts_under waits.entry)) }
+{
+    match operands {
+        Some([file, entry, state]) => {
+            let steps = chosen(steps, STEPS, DEFAULT_STEPS)?;
+            let waits = chosen(waits, WAITS as u64, DEFAULT_WAITS as u64)? as u32;
+            Some(Order::Journal {
+                file,
+                entry,
+                state,
+                steps,
+                waits,
+            })
+        }
+        _ => None,
+    }
+}
+
 /// The order of a command's name and of what stands under its operands and options. `None` exactly
 /// where there are too few or too many of them, or one is no number of its range.
 pub(crate) fn order<'a>(name: &str, matches: &ArgMatches<'a>) -> Option<Order<'a>>
@@ -128,6 +153,11 @@ pub(crate) fn order<'a>(name: &str, matches: &ArgMatches<'a>) -> Option<Order<'a
         "order" => ranking(operands),
         "replay" => replay(operands),
         "witness" => witness(operands),
+        "journal" => journal(
+            operands,
+            matches.get_strs("steps"),
+            matches.get_strs("waits"),
+        ),
         _ => None,
     }
 }

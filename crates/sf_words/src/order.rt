@@ -57,6 +57,19 @@ pub enum Order<'a> {
         /// The file's name.
         file: &'a str,
     },
+    /// Run as `Run` does, and tell the events that the run had.
+    Journal {
+        /// The file's name.
+        file: &'a str,
+        /// The procedure that is run.
+        entry: &'a str,
+        /// The name of the state's file.
+        state: &'a str,
+        /// The most events that the run may have: 1 to 2^48.
+        steps: u64,
+        /// The most tries in a row at one region: 1 to 16,777,216.
+        waits: u32,
+    },
 }
 
 /// Why words were not read.

@@ -14,14 +14,14 @@ use Rattle.sf_run.specs.Sequential.{IsSequentialStart}
 use Rattle.sf_state.specs.Entering.{IsEntry}
 use Rattle.sf_state.specs.Starts.{IsStartText}
 use Rattle.sf_sym.specs.declared.tag.Tag.{Tag}
-use Rattle.sf_cli.specs.Answer.{AcceptedBytes, Answer, DemoAnswer, EndedRun, FileAnswer, Names, OrderAnswer, RunAnswer, RankingFileAnswer, WitnessFileAnswer}
+use Rattle.sf_cli.specs.Answer.{AcceptedBytes, Answer, DemoAnswer, EndedJournal, EndedRun, FileAnswer, JournalAnswer, Names, OrderAnswer, RunAnswer, RankingFileAnswer, WitnessFileAnswer}
 use Rattle.sf_cli.specs.Replayed.{EnteredAnswer, ReplayAnswer}
 use Rattle.sf_cli.specs.SoundFile.{IsAccepting}
 use Rattle.sf_cli.specs.FileFault.{Admits, FileFault}
 use Rattle.sf_cli.specs.declared.refusal.Refusal.{Refusal}
 use Rattle.sf_cli.specs.Rechecked.{ProofAnswer}
 use Rattle.sf_cli.specs.Reads.{Reads}
-use Rattle.sf_words.specs.Words.{Text, Order, order_of, run}
+use Rattle.sf_words.specs.Words.{Text, Order, journal, order_of, run}
 
 -- bytes read as at most one program
 abbrev pub EachFileIsOneProgram : Type 0
@@ -85,6 +85,22 @@ EachRunHasAnAnswer =
     (files : Files) (bytes entry state_name given : Text) (steps waits : ℕ) → files state_name ≡ Some given
     → RunsAlone bytes entry given → (text : Text) × (status : ℕ) × RunAnswer (Some files) bytes entry state_name steps waits text status
 
+-- a run whose events are told has at most one answer over the same files, where one is not of its tasks, or no parallel
+-- call can be reached
+abbrev pub EachJournalHasOneAnswer : Type 0
+EachJournalHasOneAnswer =
+    (files : Files) (bytes entry state_name text other : Text) (steps waits status code : ℕ)
+    → (IsOfTasks status → (given : Text) → files state_name ≡ Some given → RunsAlone bytes entry given)
+    → JournalAnswer (Some files) bytes entry state_name steps waits text status
+    → JournalAnswer (Some files) bytes entry state_name steps waits other code → (text ≡ other) × (status ≡ code)
+
+-- it has an answer, where the state's file is there and no parallel call can be reached
+abbrev pub EachJournalHasAnAnswer : Type 0
+EachJournalHasAnAnswer =
+    (files : Files) (bytes entry state_name given : Text) (steps waits : ℕ) → files state_name ≡ Some given
+    → RunsAlone bytes entry given
+    → (text : Text) × (status : ℕ) × JournalAnswer (Some files) bytes entry state_name steps waits text status
+
 -- `demo` has at most one answer
 abbrev pub EachDemoHasOneAnswer : Type 0
 EachDemoHasOneAnswer =
@@ -143,9 +159,11 @@ AcceptedFilesAreReplayedSafely =
     (told : Option Files) (bytes shown entry state_name schedule_name text : Text) (status : ℕ)
     → FileAnswer bytes shown 0 → ReplayAnswer told bytes entry state_name schedule_name text status → status ≢ 10
 
--- if the order is a run, no parallel call can be reached in it
+-- if the order is a run, or one whose events are told, no parallel call can be reached in it
 abbrev pub IsAlone : Files → Option Order → Type 0
 IsAlone files (Some (run file entry state steps waits)) =
+    (bytes given : Text) → files file ≡ Some bytes → files state ≡ Some given → RunsAlone bytes entry given
+IsAlone files (Some (journal file entry state steps waits)) =
     (bytes given : Text) → files file ≡ Some bytes → files state ≡ Some given → RunsAlone bytes entry given
 IsAlone files _ = Unit {0}
 
@@ -188,3 +206,11 @@ FinishedRunsHaveEnded =
     (told : Option Files) (file entry state_name text : Text) (steps waits : ℕ)
     → OrderAnswer told (Some (run file entry state_name steps waits)) text 0
     → EndedRun told file entry state_name steps text
+
+-- what is answered with status 0 to a run whose events are told is such a text, and then a list of events that reaches
+-- that configuration from the start which was read
+abbrev pub JournalsReachTheirEnds : Type 0
+JournalsReachTheirEnds =
+    (told : Option Files) (file entry state_name text : Text) (steps waits : ℕ)
+    → OrderAnswer told (Some (journal file entry state_name steps waits)) text 0
+    → EndedJournal told file entry state_name steps text

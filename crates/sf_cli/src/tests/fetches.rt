@@ -17,7 +17,7 @@ const OF_STATE: usize = 67_108_865;
 const OF_SCHEDULE: usize = 67_108_865;
 
 /// Words, and what they ask for.
-const REQUESTS: [(&[&str], &[(&str, usize)]); 27] = [
+const REQUESTS: [(&[&str], &[(&str, usize)]); 31] = [
     (&[], &[]),
     (&["verify"], &[]),
     (&["demo", "2"], &[]),
@@ -56,6 +56,22 @@ const REQUESTS: [(&[&str], &[(&str, usize)]); 27] = [
     (&["run", "free.sf", "f", "given"], &[("free.sf", OF_FILE)]),
     (&["order", "mm.sf"], &[("mm.sf", OF_FILE)]),
     (&["order", "none.sf"], &[("none.sf", OF_FILE)]),
+    (
+        &["journal", "two.sf", "two", "given"],
+        &[("two.sf", OF_FILE), ("given", OF_STATE)],
+    ),
+    (
+        &["journal", "two.sf", "two", "none"],
+        &[("two.sf", OF_FILE), ("none", OF_STATE)],
+    ),
+    (
+        &["journal", "leak.sf", "disp_tree", "given"],
+        &[("leak.sf", OF_FILE)],
+    ),
+    (
+        &["journal", "two.sf", "none", "given"],
+        &[("two.sf", OF_FILE)],
+    ),
     (
         &["replay", "two.sf", "two", "given", "none"],
         &[

@@ -1,12 +1,12 @@
 -- Laws of lists of events: where one of the same events leads in which what depends on one another keeps its order, and
 -- where that leads which a log gives.
 -- Mazurkiewicz (1977); Brookes (2007): what doesn't race may change places; Lamport (1978) for logs.
-use Rattle.std.specs.Prelude.{◌≡◌, ◌<◌, ℕ, List, Some, Contains}
+use Rattle.std.specs.Prelude.{◌≡◌, ◌<◌, ℕ, List, Some, Contains, map}
 use Rattle.sf_base.specs.declared.ids.ProcId.{ProcId}
 use Rattle.sf_base.specs.declared.value.Value.TheVariants.{Nil as nil}
 use Rattle.sf_base.specs.HeapStore.{Cell, Heap, Store}
 use Rattle.sf_core.specs.Machine.Bad.{Bad}
-use Rattle.sf_core.specs.Machine.Config.{Config}
+use Rattle.sf_core.specs.Machine.Config.{Config, Path}
 use Rattle.sf_core.specs.Machine.Numbered.{Numbered}
 use Rattle.sf_core.specs.Machine.Reach.{Reach}
 use Rattle.sf_core.specs.Machine.Start.{Start}
@@ -45,8 +45,23 @@ MergedLogsReachTheSame = (p : Program) (f : ProcId) (store : Store) (heap : Heap
     → Start p f store heap start → IsNeverBad p start → IsBelow start base → Numbered p start base count events c
     → IsLogOf p start events c log → Merges fields log schedule → Reach p start (events_of schedule) c
 
+-- each run has a log, which can be merged
+unfoldable pub RunsHaveJournals : Type 0
+RunsHaveJournals = (p : Program) (c d : Config) (events : List Event) (fields : ℕ) → Reach p c events d
+    → (log : List Stamped) × IsLogOf p c events d log × (schedule : List Scheduled) × Merges fields log schedule
+
 -- in such a schedule each cell that is made stands at its event's number, with all fields nil
 unfoldable pub MergedCellsAreEmpty : Type 0
 MergedCellsAreEmpty = (fields : ℕ) (log : List Stamped) (schedule : List Scheduled) (event : Event)
     → Merges fields log schedule → Contains (events_of schedule) event
     → (event.at ≡ event.number) × ((field : ℕ) → event.fields field ≡ nil)
+
+-- an event as a log tells of it: its cell, if it makes one, stands at its number, with all fields nil
+abbrev pub as_told : Event → Event
+as_told event = record { task = event.task; number = event.number; at = event.number; fields = λ field. nil }
+
+-- where all events are of one task, a schedule that is merged from a log has them in their order
+unfoldable pub LogsOfOneTaskKeepItsOrder : Type 0
+LogsOfOneTaskKeepItsOrder = (p : Program) (c d : Config) (events : List Event) (fields : ℕ) (log : List Stamped)
+    (schedule : List Scheduled) (task : Path) → ((event : Event) → Contains events event → event.task ≡ task)
+    → IsLogOf p c events d log → Merges fields log schedule → events_of schedule ≡ map as_told events

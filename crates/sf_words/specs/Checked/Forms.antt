@@ -28,8 +28,9 @@ bare_form name = with_rule (new_app name) operands_rule
 abbrev pub verify_form : App
 verify_form = with_rule (bare_form (codes "verify")) (option_rule (codes "workers"))
 
-abbrev pub run_form : App
-run_form = with_rule (with_rule (bare_form (codes "run")) (option_rule (codes "steps")))
+-- a command of that name that runs a procedure
+abbrev pub run_form : Text → App
+run_form name = with_rule (with_rule (bare_form name) (option_rule (codes "steps")))
     (option_rule (codes "waits"))
 
 -- the program: its commands, with no forms of help and of the version, and no name of its own
@@ -44,11 +45,11 @@ silent s = record s {
 
 abbrev pub program_form : App
 program_form = with_subcommand (with_subcommand (with_subcommand (with_subcommand
-    (with_subcommand (with_subcommand (with_subcommand
+    (with_subcommand (with_subcommand (with_subcommand (with_subcommand
     (on_top silent (new_app (codes "smallfoot"))) verify_form.top)
-    (bare_form (codes "recheck")).top) run_form.top) (bare_form (codes "demo")).top)
+    (bare_form (codes "recheck")).top) (run_form (codes "run")).top) (bare_form (codes "demo")).top)
     (bare_form (codes "order")).top) (bare_form (codes "replay")).top)
-    (bare_form (codes "witness")).top
+    (bare_form (codes "witness")).top) (run_form (codes "journal")).top
 
 -- the values that stand under a name, in order
 abbrev pub values_at : Text → List Row → List Text

@@ -9,7 +9,7 @@ use Rattle.clap.specs.declared.error.kind.ErrorKind.TheVariants as kind
 use Rattle.sf_words.specs.Checked.Forms.{operands_id, values_at}
 use Rattle.sf_words.specs.declared.order.WordFault.{WordFault}
 use Rattle.sf_words.specs.declared.order.WordFault.TheVariants.{OutOfMemory, Usage}
-use Rattle.sf_words.specs.Words.{Order, Text, demo_of, ranking_of, recheck_of, replay_of, run_of, steps_of, verify_of}
+use Rattle.sf_words.specs.Words.{Order, Text, demo_of, journal_of, ranking_of, recheck_of, replay_of, run_of, steps_of, verify_of}
 use Rattle.sf_words.specs.Words.{waits_of, witness_of, workers_of}
 use Rattle.sf_words.specs.WordsOf.{words_of}
 
@@ -26,6 +26,10 @@ abbrev pub run_found : List Row → Option Order
 run_found rows = run_of (values_at operands_id rows) (steps_of (values_at (codes "steps") rows))
     (waits_of (values_at (codes "waits") rows))
 
+abbrev pub journal_found : List Row → Option Order
+journal_found rows = journal_of (values_at operands_id rows) (steps_of (values_at (codes "steps") rows))
+    (waits_of (values_at (codes "waits") rows))
+
 -- the order of the command with that name
 abbrev pub order_found : Text → List Row → Option Order
 order_found name rows =
@@ -36,7 +40,8 @@ order_found name rows =
     else (if bytes_eq (codes "order") name then ranking_of (values_at operands_id rows)
     else (if bytes_eq (codes "replay") name then replay_of (values_at operands_id rows)
     else (if bytes_eq (codes "witness") name then witness_of (values_at operands_id rows)
-    else None))))))
+    else (if bytes_eq (codes "journal") name then journal_found rows
+    else None)))))))
 
 -- the order of the command that was met, if one was
 abbrev pub met_order : Option (Text × List Row) → Option Order

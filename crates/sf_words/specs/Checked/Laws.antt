@@ -1,7 +1,7 @@
 -- Laws of the grammar, in words of their own.
 -- Ordinary: a command line means one thing, and everything that can be meant can be said.
 use Rattle.std.specs.Prelude.{◌≡◌, false, List, Some}
-use Rattle.sf_words.specs.Words.{HasNumbersInRange, Order, Text, demo, is_blank, order_of, ranking, recheck, replay, run, verify, witness}
+use Rattle.sf_words.specs.Words.{HasNumbersInRange, Order, Text, demo, is_blank, journal, order_of, ranking, recheck, replay, run, verify, witness}
 
 -- words are at most one order
 abbrev pub WordsAreOneOrder : Type 0
@@ -19,6 +19,8 @@ HasNoBlankWord (ranking file) = is_blank file ≡ false
 HasNoBlankWord (replay file entry state schedule) =
     (is_blank file ≡ false) × (is_blank entry ≡ false) × (is_blank state ≡ false) × (is_blank schedule ≡ false)
 HasNoBlankWord (witness file) = is_blank file ≡ false
+HasNoBlankWord (journal file entry state steps waits) =
+    (is_blank file ≡ false) × (is_blank entry ≡ false) × (is_blank state ≡ false)
 
 -- an order that can be meant: no word of it is blank, and its numbers are in their ranges
 abbrev pub CanBeMeant : Order → Type 0

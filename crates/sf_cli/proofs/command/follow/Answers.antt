@@ -35,6 +35,15 @@ returns-in-Run-clause-quiet g c =
     ok-both c.run_file.result _ _ _ (λ said l q a. q (answering-small said.status l a)) c.run_file.ensures.status
     c.run_file.ensures.quiet
 
+pub returns-in-Journal-clause-status : goal.returns-in-Journal-clause-status
+returns-in-Journal-clause-status g c =
+    IfOk-weaker c.run_file-in-Journal.result _ _ (λ said l. said-small said.status l) c.run_file-in-Journal.ensures.status
+
+pub returns-in-Journal-clause-quiet : goal.returns-in-Journal-clause-quiet
+returns-in-Journal-clause-quiet g c =
+    ok-both c.run_file-in-Journal.result _ _ _ (λ said l q a. q (answering-small said.status l a))
+    c.run_file-in-Journal.ensures.status c.run_file-in-Journal.ensures.quiet
+
 pub returns-in-Demo-clause-status : goal.returns-in-Demo-clause-status
 returns-in-Demo-clause-status g c =
     IfOk-weaker c.demonstrate.result _ _

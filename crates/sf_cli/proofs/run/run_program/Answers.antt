@@ -10,7 +10,9 @@ use Rattle.sf_search.specs.declared.verdicts.VerifyFault.{VerifyFault}
 use Rattle.sf_search.specs.Ends.{cause_of, FailsAs}
 use Rattle.sf_cli.proofs.Ordering.{is_ordering, ordered}
 use Rattle.sf_cli.proofs.Verdicts.{failed-answer, failed-status}
-use Rattle.sf_cli.specs.Answer.{HasRun, IsProved, RunFileAnswer, unproved}
+use Rattle.sf_cli.proofs.Kept.{kept-unfinished}
+use Rattle.sf_cli.specs.Answer.{HasRun, IsProved, RunFileAnswer, RunFileJournal, unproved}
+use Rattle.sf_cli.specs.Checked.Kept.{KeptAnswer}
 use Rattle.sf_cli.proofs.run.run_program.Goals as goal
 
 pub verify-requires : goal.verify-requires
@@ -29,9 +31,12 @@ run_proved-requires-clause-proved g c = λ κs b.
 
 pub returns-in-Ok-clause-answered : goal.returns-in-Ok-clause-answered
 returns-in-Ok-clause-answered g c =
-    subst (λ (a : Arranged). IfOk c.run_proved.result (λ said. said.status < 7
-    → RunFileAnswer (g.S.Shelf.files c.args.shelf.now) (program_of a.program) c.args.words.now.procedure.now
-    c.args.words.now.state.now c.args.words.now.budget.steps c.args.words.now.budget.waits said.text.items said.status))
+    let words = c.args.words.now in
+    let told = g.S.Shelf.files c.args.shelf.now in
+    subst (λ (a : Arranged). IfOk c.run_proved.result (λ said. said.status < 7 → KeptAnswer words.kept
+    (RunFileAnswer told (program_of a.program) words.procedure.now words.state.now words.budget.steps words.budget.waits)
+    (RunFileJournal told (program_of a.program) words.procedure.now words.state.now words.budget.steps) said.text.items
+    said.status))
     c.in-Ok.ensures.arranged c.run_proved.ensures.answered
 
 pub returns-in-Ok-clause-unread : goal.returns-in-Ok-clause-unread
@@ -67,11 +72,18 @@ returns-in-Err-Failed-clause-answered g c =
     let own = c.arranged_has_setting.ensures ordered c.args.arranged.now is_ordering in
     let failed = subst (λ (fault : VerifyFault). FailsAs (setting_of ordered c.args.arranged.now) fault)
     c.in-Err-Failed.field-0-is c.in-Err-Failed.ensures.failed in
+    let words = c.args.words.now in
+    let told = g.S.Shelf.files c.args.shelf.now in
+    let p = program_of c.args.arranged.now.program in
     IfOk-weaker c.say_failure.result _ _
-    (λ said k less. unproved (failed-answer (program_of c.args.arranged.now.program)
+    (λ said k less. let one : said.status ≡ 1 = failed-status p (setting_of ordered c.args.arranged.now)
+    c.in-Err-Failed.f (cause_of c.in-Err-Failed.why) said.text.items said.status failed k in
+    kept-unfinished words.kept
+    (RunFileAnswer told p words.procedure.now words.state.now words.budget.steps words.budget.waits)
+    (RunFileJournal told p words.procedure.now words.state.now words.budget.steps) said.text.items said.status
+    (λ z. omega (arith, one, z)) (unproved (failed-answer (program_of c.args.arranged.now.program)
     (setting_of ordered c.args.arranged.now) c.in-Err-Failed.f (cause_of c.in-Err-Failed.why) said.text.items said.status
-    own failed k) (failed-status (program_of c.args.arranged.now.program) (setting_of ordered c.args.arranged.now)
-    c.in-Err-Failed.f (cause_of c.in-Err-Failed.why) said.text.items said.status failed k)) c.say_failure.ensures
+    own failed k) one)) c.say_failure.ensures
 
 pub returns-in-Err-Failed-clause-unread : goal.returns-in-Err-Failed-clause-unread
 returns-in-Err-Failed-clause-unread g c =

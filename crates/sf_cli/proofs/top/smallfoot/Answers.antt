@@ -28,7 +28,7 @@ returns-in-Ok-clause-ended g c = λ zero.
     let whole = c.tell.ensures.whole small in (
       c.in-Ok.said.text.items,
       whole.1,
-      ended-reply c.finished_runs_have_ended.ensures (g.S.Shelf.files c.args.shelf.now)
+      ended-reply c.finished_runs_have_ended.ensures c.journals_reach_their_ends.ensures (g.S.Shelf.files c.args.shelf.now)
           (g.S.Shelf.faults c.args.shelf.now) (g.S.Shelf.faults c.respond.new.shelf) (order_of (words_of c.args.words.now))
           c.in-Ok.said.text.items c.in-Ok.said.status (sym whole.0 ∙ zero) c.in-Ok.ensures.said,
     )

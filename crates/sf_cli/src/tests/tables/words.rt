@@ -1,7 +1,7 @@
 //! Words of the command line.
 
 /// Words that are no command.
-pub const NO_COMMANDS: [&[&str]; 25] = [
+pub const NO_COMMANDS: [&[&str]; 28] = [
     &[],
     &["verify"],
     &["verify", "a", "b"],
@@ -27,6 +27,9 @@ pub const NO_COMMANDS: [&[&str]; 25] = [
     &["order", "-"],
     &["replay", "a", "b", "c"],
     &["replay", "a", "b", "c", "d", "e"],
+    &["journal", "a", "b"],
+    &["journal", "a", "b", "c", "d"],
+    &["journal", "a", "b", "c", "--workers", "1"],
 ];
 
 /// Words that have the file set.sf proved.

@@ -19,8 +19,9 @@ returns c =
     ∙ ap (on_top (λ (s : Shape). record s { no_binary_name = true })) c.new.ensures.app)))) in
     let one_is = c.in_ok-verify.ensures _ _ c.in_ok-one.ensures ∙ ap (λ (a : App). with_subcommand a verify_form.top) start_is in
     let two_is = c.in_ok-recheck.ensures _ _ c.in_ok-two.ensures ∙ ap (λ (a : App). with_subcommand a (bare_form (codes "recheck")).top) one_is in
-    let three_is = c.in_ok-run.ensures _ _ c.in_ok-three.ensures ∙ ap (λ (a : App). with_subcommand a run_form.top) two_is in
+    let three_is = c.in_ok-run.ensures _ _ c.in_ok-three.ensures ∙ ap (λ (a : App). with_subcommand a (run_form (codes "run")).top) two_is in
     let four_is = c.in_ok-demo.ensures _ _ c.in_ok-four.ensures ∙ ap (λ (a : App). with_subcommand a (bare_form (codes "demo")).top) three_is in
     let five_is = c.in_ok-order.ensures _ _ c.in_ok-five.ensures ∙ ap (λ (a : App). with_subcommand a (bare_form (codes "order")).top) four_is in
     let six_is = c.in_ok-replay.ensures _ _ c.in_ok-six.ensures ∙ ap (λ (a : App). with_subcommand a (bare_form (codes "replay")).top) five_is in
-    c.in_ok-witness.ensures _ _ c.in_ok-all.ensures ∙ ap (λ (a : App). with_subcommand a (bare_form (codes "witness")).top) six_is
+    let seven_is = c.in_ok-witness.ensures _ _ c.in_ok-seven.ensures ∙ ap (λ (a : App). with_subcommand a (bare_form (codes "witness")).top) six_is in
+    c.in_ok-journal.ensures _ _ c.in_ok-all.ensures ∙ ap (λ (a : App). with_subcommand a (run_form (codes "journal")).top) seven_is

@@ -6,7 +6,7 @@ use Rattle.sf_base.proofs.Equality.{bytes_eq-same}
 use Rattle.sf_words.proofs.Rows.{texts-rows}
 use Rattle.sf_words.specs.Checked.Forms.{operands_id, values_at}
 use Rattle.sf_words.specs.Checked.Found.{order_found, texts_under}
-use Rattle.sf_words.specs.Words.{Text, demo_of, ranking_of, recheck_of, replay_of, run_of, steps_of, verify_of, waits_of, witness_of, workers_of}
+use Rattle.sf_words.specs.Words.{Text, demo_of, journal_of, ranking_of, recheck_of, replay_of, run_of, steps_of, verify_of, waits_of, witness_of, workers_of}
 use Rattle.sf_words.proofs.given.order.Goals as goal
 
 pub returns-in-verify : goal.returns-in-verify
@@ -56,6 +56,16 @@ returns-in-witness c =
     let operands = texts-rows operands_id (rows_of found) c.get_strs-operands.result _ c.get_strs-operands.ensures (raw_values-rows found operands_id) in
     c.witness.ensures ∙ ap witness_of operands ∙ sym (ap (λ (n : Text). order_found n (rows_of found)) c.in-witness.is)
 
+pub returns-in-journal : goal.returns-in-journal
+returns-in-journal c =
+    let found = found_of c.args.matches.now in
+    let operands = texts-rows operands_id (rows_of found) c.get_strs-operands.result _ c.get_strs-operands.ensures (raw_values-rows found operands_id) in
+    let steps = texts-rows (codes "steps") (rows_of found) c.get_strs-in-journal.result _ c.get_strs-in-journal.ensures (raw_values-rows found (codes "steps")) in
+    let waits = texts-rows (codes "waits") (rows_of found) c.get_strs-in-journal-2.result _ c.get_strs-in-journal-2.ensures (raw_values-rows found (codes "waits")) in
+    c.journal.ensures ∙ ap₂ (λ (x y : List Text). journal_of x (steps_of y) (waits_of (texts_under c.get_strs-in-journal-2.result))) operands steps
+    ∙ ap (λ (x : List Text). journal_of (values_at operands_id (rows_of found)) (steps_of (values_at (codes "steps") (rows_of found))) (waits_of x)) waits
+    ∙ sym (ap (λ (n : Text). order_found n (rows_of found)) c.in-journal.is)
+
 -- a name that isn't the word
 other : (w name : Text) → (name ≡ w → ⊥) → bytes_eq w name ≡ false
 other w name n = go (bytes_eq w name) refl
@@ -75,4 +85,5 @@ returns-in_default c =
       other (codes "order") name c.in_default.not-order,
       other (codes "replay") name c.in_default.not-replay,
       other (codes "witness") name c.in_default.not-witness,
+      other (codes "journal") name c.in_default.not-journal,
     ) refl
