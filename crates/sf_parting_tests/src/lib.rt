@@ -4,15 +4,15 @@
 //!
 //! - `programs`: the texts of programs and of states.
 //! - `parts`: parts of one task, from their beginning to their end.
-//! - `turns`: a task at a table, turn by turn.
 //! - `regions`: what a task enters with, leaves and gets again, and what it misses.
+//! - `forks`: two children of a fork at one region: what they meet with, and their numbers and stamps.
 #![tactic(auto)]
 
+#[cfg(test)]
+mod forks;
 #[cfg(test)]
 mod parts;
 #[cfg(test)]
 mod programs;
 #[cfg(test)]
 mod regions;
-#[cfg(test)]
-mod turns;

@@ -1,78 +1,25 @@
 //! Parts of one task: with which part and contents a run begins, its own steps, and what it ends
 //! with. Numbers of events, stamps and values are worked out by hand.
 
-ghost use Rattle.std.specs.Prelude.{◌<◌, IfOk, IfSome, OnErr, length};
+ghost use Rattle.std.specs.Prelude.{IfOk, IfSome, OnErr};
 ghost use Rattle.sf_core.specs.Program.ProgramView.{program_of};
-ghost use Rattle.sf_part.specs.Answers.{Answers};
 ghost use Rattle.sf_part.specs.PartView.{IsPartOf, part_of};
-ghost use Rattle.sf_parting_tests.specs.Checked.Running.{IsAtEntry};
+ghost use Rattle.sf_turns.specs.Checked.Running.{IsAtEntry};
 
 use crate::programs::{BARE, FELLED, SMALL_TREE, TURNED, TWO_CELLS};
-use sf_base::limits::STEPS;
-use sf_base::{FieldId, ProcId, ResId, TaskPath, Turn, Value};
-use sf_core::Program;
-use sf_files::{Entered, fitted, start_of};
+use sf_base::{FieldId, ResId, TaskPath, Turn, Value};
+use sf_files::fitted;
 use sf_foot::Vars;
 use sf_frame::Spot;
 use sf_heap::Heap;
-use sf_part::{Content, Local, Log, Part, PartFault, Stamped};
+use sf_part::{Local, Log, Part, PartFault, Stamped};
 use sf_precise::Arranged;
+use sf_turns::parts::{Begun, begin_part, own_steps};
 use std::alloc::{AllocError, Global};
 use std::test::Fail;
 
-/// A procedure that runs, with its part and the contents beside it.
-#[derive(Drop)]
-struct Begun<'p> {
-    f: ProcId,
-    part: Part<'p>,
-    contents: Vec<Content>,
-}
-
-/// The part and the contents with which the procedure of that name begins from what the text gives,
-/// with so many units and a log, if it does.
-fn begin_part<'p>(
-    alloc: Global,
-    p: &'p Arranged,
-    name: &str,
-    text: &[u8],
-    steps: u64,
-) -> Result<Option<Begun<'p>>, AllocError>
-    ensures of { IfOk result (λ o. IfSome o (λ b.
-        IsPartOf (program_of p.now.program) b.part)) }
-    ensures entry { IfOk result (λ o. IfSome o (λ b. IsAtEntry (part_of b.part))) }
-    ensures within { IfOk result
-        (λ o. IfSome o (λ b. b.f.0 < length p.now.program.procedures.items)) }
-{
-    if steps == 0 || steps > STEPS {
-        return Ok(None);
-    }
-    let Some(entered) = start_of(alloc, p, name, text) else {
-        return Ok(None);
-    };
-    let Entered { f, start } = entered;
-    let (part, contents) = Part::first(alloc, p, f, start, steps, true)?;
-    Ok(Some(Begun { f, part, contents }))
-}
-
-/// Makes the next steps of the entry's task that are its own affair, at most 20, and tells how many
-/// there were and why there is no further one.
-fn own_steps<'p>(part: &mut Part<'p>, p: &'p Program) -> Result<Option<(u64, Local)>, AllocError>
-    requires of { IsPartOf (program_of p.now) part.old }
-    requires entry { IsAtEntry (part_of part.old) }
-    ensures of { IsPartOf (program_of p.now) part.new }
-    ensures entry { IsAtEntry (part_of part.new) }
-    ensures answers { IfOk result (λ o. IfSome o
-        (λ told. Answers (program_of p.now) (part_of part.new) told.1)) }
-{
-    for count in 0..20 {
-        part.make_room()?;
-        match part.step_local(p)? {
-            Local::Moved => {}
-            answer => return Ok(Some((count, answer))),
-        }
-    }
-    Ok(None)
-}
+/// The most own steps that a test makes at once.
+const MOST: u64 = 20;
 
 /// How many own steps a run of the procedure of that name makes, and what its part ends with, if it
 /// ends with them.
@@ -83,11 +30,11 @@ fn ended(
     text: &[u8],
     steps: u64,
 ) -> Result<Option<(u64, Vars, Heap, Log)>, AllocError> {
-    let Some(begun) = begin_part(alloc, p, name, text, steps)? else {
+    let Some(begun) = begin_part(alloc, p, name, text, steps, true)? else {
         return Ok(None);
     };
     let Begun { f, mut part, .. } = begun;
-    match own_steps(&mut part, &p.program)? {
+    match own_steps(&mut part, &p.program, MOST)? {
         Some((count, Local::Done)) => {
             let (vars, heap, log) = part.into_end(&p.program, f)?;
             Ok(Some((count, vars, heap, log)))
@@ -140,7 +87,7 @@ fn a_resource_begins_with_its_own(rt: HostRuntime) -> Result<(), Fail> {
     let alloc = rt.alloc();
     let p = fitted(alloc, KEPT_CELLS).expect(&rt, "a program");
     let text = b"x = nil\nmm.f = @1\n@1 tl=@2\n@2";
-    let begun = begin_part(alloc, &p, "alloc", text, 9)?.expect(&rt, "a start");
+    let begun = begin_part(alloc, &p, "alloc", text, 9, true)?.expect(&rt, "a start");
     let Begun {
         mut part,
         mut contents,
@@ -150,7 +97,7 @@ fn a_resource_begins_with_its_own(rt: HostRuntime) -> Result<(), Fail> {
     assert_eq!(rt; part.given(), 9);
     assert!(rt; part.has_unit());
     assert_eq!(rt; contents.len(), 1);
-    let told = own_steps(&mut part, &p.program)?;
+    let told = own_steps(&mut part, &p.program, MOST)?;
     assert_eq!(rt; told, Some((0, Local::AtRegion(ResId(0)))));
     let content = contents.pop().expect(&rt, "a content");
     assert_eq!(rt; content.resource(), ResId(0));
@@ -167,14 +114,14 @@ fn a_fresh_run_begins_with_all(rt: HostRuntime) -> Result<(), Fail> {
     let alloc = rt.alloc();
     let file = b"resource mm (f) [list(f)] init() { f = nil; } stay(x) [x|->] { } [x|->]";
     let p = fitted(alloc, file).expect(&rt, "a program");
-    let begun = begin_part(alloc, &p, "stay", b"x = @4\n@4", 5)?.expect(&rt, "a start");
+    let begun = begin_part(alloc, &p, "stay", b"x = @4\n@4", 5, true)?.expect(&rt, "a start");
     let Begun {
         mut part,
         contents,
         ..
     } = begun;
     assert_eq!(rt; contents.len(), 0);
-    let told = own_steps(&mut part, &p.program)?;
+    let told = own_steps(&mut part, &p.program, MOST)?;
     assert_eq!(rt; told, Some((1, Local::AtInit)));
     Ok(())
 }
@@ -190,7 +137,7 @@ fn split_part<'p>(
     ensures of { IsPartOf (program_of p.now.program) part.new }
     ensures entry { IfOk result (λ o. IfSome o (λ r. OnErr r (IsAtEntry (part_of part.new)))) }
 {
-    let Some((_, Local::AtFork)) = own_steps(part, &p.program)? else {
+    let Some((_, Local::AtFork)) = own_steps(part, &p.program, MOST)? else {
         return Ok(None);
     };
     if !part.has_unit() {
@@ -210,7 +157,7 @@ fn unsplit<'p>(
     requires entry { IsAtEntry (part_of part.old) }
 {
     match split_part(part, p)? {
-        Some(Err(fault)) => Ok(Some((fault, own_steps(part, &p.program)?))),
+        Some(Err(fault)) => Ok(Some((fault, own_steps(part, &p.program, MOST)?))),
         _ => Ok(None),
     }
 }
@@ -220,7 +167,9 @@ fn unsplit<'p>(
 fn a_part_without_the_cells_of_its_children_stays(rt: HostRuntime) -> Result<(), Fail> {
     let alloc = rt.alloc();
     let p = fitted(alloc, BARE).expect(&rt, "a program");
-    let begun = begin_part(alloc, &p, "disp_tree", b"p = @1\n@1 l=@9", 9)?.expect(&rt, "a start");
+    let begun = begin_part(alloc, &p, "disp_tree", b"p = @1\n@1 l=@9", 9, true)?.expect(
+        &rt, "a start",
+    );
     let Begun { mut part, .. } = begun;
     let told = unsplit(&mut part, &p)?.expect(&rt, "a parallel call");
     assert_eq!(rt; told, (PartFault::NoFootprint, Some((0, Local::AtFork))));
@@ -235,7 +184,7 @@ fn a_part_without_the_cells_of_its_children_stays(rt: HostRuntime) -> Result<(),
 fn a_part_is_split_with_half_of_its_units_each(rt: HostRuntime) -> Result<(), Fail> {
     let alloc = rt.alloc();
     let p = fitted(alloc, FELLED).expect(&rt, "a program");
-    let begun = begin_part(alloc, &p, "disp_tree", SMALL_TREE, 11)?.expect(&rt, "a start");
+    let begun = begin_part(alloc, &p, "disp_tree", SMALL_TREE, 11, true)?.expect(&rt, "a start");
     let Begun { mut part, .. } = begun;
     let told = split_part(&mut part, &p)?.expect(&rt, "a parallel call");
     let (left, right) = told.ok().expect(&rt, "two children");

@@ -3,11 +3,12 @@
 
 use crate::parts::field;
 use crate::programs::FREE_CELLS;
-use crate::turns::{Comes, End, closed, first_other, sit};
 use sf_base::{ResId, TaskPath, Value};
 use sf_files::fitted;
 use sf_frame::Spot;
 use sf_part::{Local, Stamped};
+use sf_turns::ends::{End, closed};
+use sf_turns::turns::{Comes, first_other, sit};
 use std::alloc::{AllocError, Global};
 use std::test::Fail;
 
@@ -38,7 +39,7 @@ fn what_is_left_is_got_at_the_next_entry(rt: HostRuntime) -> Result<(), Fail> {
     let alloc = rt.alloc();
     let p = fitted(alloc, FREE_CELLS).expect(&rt, "a program");
     let text = b"x = nil\ny = nil\nmm.f = @1\n@1 tl=@2\n@2 tl=@3\n@3";
-    let at = sit(alloc, &p, "two", text, 1_000)?.expect(&rt, "a start");
+    let at = sit(alloc, &p, "two", text, 1_000, true)?.expect(&rt, "a start");
     let (at, other) = first_other(at, &TAKEN_TWICE)?;
     assert_eq!(rt; other, None);
     let End {
@@ -70,7 +71,7 @@ fn what_is_left_is_got_at_the_next_entry(rt: HostRuntime) -> Result<(), Fail> {
 fn a_condition_that_is_false_is_a_miss(rt: HostRuntime) -> Result<(), Fail> {
     let alloc = rt.alloc();
     let p = fitted(alloc, FREE_CELLS).expect(&rt, "a program");
-    let at = sit(alloc, &p, "some", b"mm.f = @7\n@7", 1_000)?.expect(&rt, "a start");
+    let at = sit(alloc, &p, "some", b"mm.f = @7\n@7", 1_000, true)?.expect(&rt, "a start");
     let turns = [Comes::Missed(MM, 1), Comes::Missed(MM, 2)];
     let (_, other) = first_other(at, &turns)?;
     assert_eq!(rt; other, None);
@@ -81,7 +82,7 @@ fn a_condition_that_is_false_is_a_miss(rt: HostRuntime) -> Result<(), Fail> {
 fn an_exit_without_the_invariant_leaves_nothing(rt: HostRuntime) -> Result<(), Fail> {
     let alloc = rt.alloc();
     let p = fitted(alloc, FREE_CELLS).expect(&rt, "a program");
-    let at = sit(alloc, &p, "bad", b"mm.f = nil", 1_000)?.expect(&rt, "a start");
+    let at = sit(alloc, &p, "bad", b"mm.f = nil", 1_000, true)?.expect(&rt, "a start");
     let turns = [
         Comes::Entered(MM),
         Comes::Moved,
@@ -93,49 +94,58 @@ fn an_exit_without_the_invariant_leaves_nothing(rt: HostRuntime) -> Result<(), F
     Ok(())
 }
 
-/// Regions of so many resources inside of one another, the first one outermost.
+/// A procedure for each of so many resources, which enters its region and calls the next one there;
+/// the first has the outermost region.
 fn nested(alloc: Global, count: u32) -> Result<Vec<u8>, AllocError> {
     let mut file = Vec::new(alloc);
     for number in 0..count {
         let line = format!(in alloc; "resource r{number} () [] ")?;
         file.extend_from_slice(line.as_bytes())?;
     }
-    file.extend_from_slice(b"all() { ")?;
     for number in 0..count {
-        let line = format!(in alloc; "with r{number} when (true) {{ ")?;
+        let line = format!(in alloc; "p{number}() {{ with r{number} when (true) {{ ")?;
         file.extend_from_slice(line.as_bytes())?;
+        if number + 1 < count {
+            let line = format!(in alloc; "p{}(); ", number + 1)?;
+            file.extend_from_slice(line.as_bytes())?;
+        }
+        file.extend_from_slice(b"} } ")?;
     }
-    for _ in 0..count {
-        file.extend_from_slice(b"} ")?;
-    }
-    file.extend_from_slice(b"}")?;
     Ok(file)
 }
 
-/// The turns of a task that enters so many regions, and leaves them, the innermost first.
+/// The turns of a task that enters so many regions, each but the first one in a call, and leaves
+/// them, the innermost first.
 fn in_and_out(alloc: Global, count: u32) -> Result<Vec<Comes>, AllocError> {
     let mut turns = Vec::new(alloc);
     for number in 0..count {
+        if number > 0 {
+            turns.push(Comes::Moved)?;
+        }
         turns.push(Comes::Entered(ResId(number)))?;
     }
     for number in (0..count).rev() {
         turns.push(Comes::Left(ResId(number)))?;
+        if number > 0 {
+            turns.push(Comes::Moved)?;
+        }
     }
     turns.push(Comes::Other(Local::Done))?;
     Ok(turns)
 }
 
+/// Of the events 128 are entries and exits, and 126 calls and returns.
 #[test]
-fn regions_of_31_resources_are_left_innermost_first(rt: HostRuntime) -> Result<(), Fail> {
+fn regions_of_64_resources_are_left_innermost_first(rt: HostRuntime) -> Result<(), Fail> {
     let alloc = rt.alloc();
-    let file = nested(alloc, 31)?;
+    let file = nested(alloc, 64)?;
     let p = fitted(alloc, file.as_slice()).expect(&rt, "a program");
-    let at = sit(alloc, &p, "all", b"", 1_000)?.expect(&rt, "a start");
-    let turns = in_and_out(alloc, 31)?;
+    let at = sit(alloc, &p, "p0", b"", 254, true)?.expect(&rt, "a start");
+    let turns = in_and_out(alloc, 64)?;
     let (at, other) = first_other(at, turns.as_slice())?;
     assert_eq!(rt; other, None);
     let End { log, contents, .. } = closed(at)?.expect(&rt, "an end");
-    assert_eq!(rt; log.entries.len(), 62);
-    assert_eq!(rt; contents.len(), 31);
+    assert_eq!(rt; log.entries.len(), 254);
+    assert_eq!(rt; contents.len(), 64);
     Ok(())
 }

@@ -1,4 +1,0 @@
--- What is checked and need not be believed: definitions that only proofs use.
--- One module for each.
-pub mod Running
-pub mod Seats

@@ -1,0 +1,5 @@
+-- What is checked and need not be believed: definitions that only proofs use.
+-- One module for each.
+pub mod Parting
+pub mod Running
+pub mod Seats
