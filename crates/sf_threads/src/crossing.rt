@@ -40,7 +40,7 @@ fn seats_are_sent()
 }
 
 /// Tasks are sent.
-pub(crate) fn tasks_are_sent()
+pub fn tasks_are_sent()
     ensures { (κ : NamedLft) → IsSend (task.the_row κ) }
 {
     parts_are_sent();
@@ -55,7 +55,7 @@ pub(crate) fn receipts_are_sent()
 }
 
 /// Tables are shared.
-pub(crate) fn tables_are_shared()
+pub fn tables_are_shared()
     ensures { (κ : NamedLft) → IsSync (regions.the_row κ) }
 {
     contents_are_sent();

@@ -14,5 +14,6 @@ mod stop;
 mod tasks;
 mod tries;
 
+pub use crossing::{tables_are_shared, tasks_are_sent};
 pub use stop::Stop;
 pub use tasks::{Crew, run_task};
