@@ -14,7 +14,7 @@ use std::thread::Threads;
 
 /// Words, the text under the name `given`, what is said and its status, and the files that are
 /// fetched, in order: one row at least for each command, and for each status but 8 and 9.
-const CASES: [(&[&str], &str, &str, u8, &[&str]); 21] = [
+const CASES: [(&[&str], &str, &str, u8, &[&str]); 23] = [
     (&["verify", "tree.sf"], "", tree::PROOF, 0, &["tree.sf"]),
     (
         &["verify", "set.sf", "--workers", "4"],
@@ -93,6 +93,20 @@ const CASES: [(&[&str], &str, &str, u8, &[&str]); 21] = [
         "spent waits: task 0.1 resource buf tries 3\n",
         6,
         &["pair.sf", "given"],
+    ),
+    (
+        &["journal", "mm.sf", "alloc", "given"],
+        "x = nil\nmm.f = nil\n",
+        "finished\nx = @3\nmm.f = nil\n@3 hd=nil tl=nil l=nil r=nil\nschedule\n0 1\n0 2\n0 3\n0 4\n",
+        0,
+        &["mm.sf", "given"],
+    ),
+    (
+        &["journal", "stay.sf", "stay", "given", "--waits", "2"],
+        "r.v = nil\n",
+        "spent waits: task 0 resource r tries 2\n",
+        6,
+        &["stay.sf", "given"],
     ),
     (
         &["replay", "fork.sf", "g", "given", "given"],

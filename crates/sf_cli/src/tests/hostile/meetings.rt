@@ -2,7 +2,7 @@
 //! gate. Which answers may come of some order of the steps is worked out by hand.
 
 use super::super::files::{buffer, forking, late, mm, stay, tree};
-use super::super::{says_at, shelf_with};
+use super::super::{says, says_at, shelf_with};
 use super::gates::{HostileGate, MANNERS, Manner};
 use crate::top::smallfoot;
 use sf_base::{ResId, TaskPath, Turn};
@@ -232,6 +232,49 @@ fn waits_that_never_end_use_up_their_tries(rt: HostRuntime) -> Result<(), Fail> 
 fn gates_change_nothing_where_no_tasks_meet(rt: HostRuntime) -> Result<(), Fail> {
     is_run(&rt, rt.alloc(), &SUBTREES)?;
     is_run(&rt, rt.alloc(), &SET_UP)
+}
+
+/// Under that gate the run's journal, where the run has ended, is a schedule in which `replay` finds
+/// nothing bad.
+fn is_replayed_from<R: Threads + Wait + Sync + Abort>(
+    rt: &R,
+    alloc: Global,
+    meeting: &Meeting,
+    gate: &HostileGate,
+) -> Result<(), Fail> {
+    let mut shelf = MemShelf::new(alloc);
+    shelf.add("p.sf", meeting.file.as_bytes())?;
+    shelf.add("state", meeting.state.as_bytes())?;
+    let mut sink = MemSink::new(alloc, usize::MAX);
+    let words = [
+        "journal",
+        "p.sf",
+        meeting.entry,
+        "state",
+        "--waits",
+        "1000000",
+    ];
+    let status = smallfoot(rt, alloc, &words, &mut shelf, &mut sink, gate);
+    if status == 0 {
+        shelf.add("schedule", sink.bytes())?;
+        let words = ["replay", "p.sf", meeting.entry, "state", "schedule"];
+        says(rt, alloc, &words, &mut shelf, ("no such step\n", 0))?;
+    } else {
+        assert_eq!(rt; status, 6);
+    }
+    Ok(())
+}
+
+#[test]
+fn what_a_journal_has_is_replayed_under_each_gate(rt: HostRuntime) -> Result<(), Fail> {
+    let alloc = rt.alloc();
+    for meeting in [HANDED_OVER, FOUR_WRITERS, STACKED, SUBTREES, SET_UP] {
+        for manner in MANNERS {
+            let gate = HostileGate::new(manner, TURNS);
+            is_replayed_from(&rt, alloc, &meeting, &gate)?;
+        }
+    }
+    Ok(())
 }
 
 /// Under that manner of gates `verify` says what it says with one worker.
