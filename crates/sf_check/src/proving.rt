@@ -1,6 +1,6 @@
 //! A check of tags, one after the other.
 
-ghost use Rattle.std.specs.Prelude.{◌≡◌, ◌∷◌, ◌⊎◌, [], IfErr, IfOk, MatchResult, None, Some, cond, ℕ};
+ghost use Rattle.std.specs.Prelude.{◌≡◌, ◌<◌, ◌+◌, ◌^◌, ◌∷◌, ◌⊎◌, [], IfErr, IfOk, OnOk, MatchResult, None, Some, cond, suc, ℕ};
 ghost use Rattle.std.specs.List.{slice_get};
 ghost use Rattle.sf_rules.specs.Proving.{Proves};
 ghost use Rattle.sf_check.specs.Accepted.{arranged_in, tags_in};
@@ -62,9 +62,21 @@ impl<'a> Stand<'a> {
         if tag != Tag::Procedure(next) {
             return Ok(false);
         }
-        self.goals.push(first_goal(alloc, arranged, next)?)?;
-        self.begun += 1;
+        let goal = first_goal(alloc, arranged, next)?;
+        self.open(goal)?;
         Ok(true)
+    }
+
+    /// With no goal open, opens the first one of the next procedure. An `Err` means out of memory.
+    fn open(&mut self, goal: Goal<'a>) -> Result<(), AllocError>
+        requires none_open { self.old.goals.items ≡ [] }
+        requires room { self.old.begun + 1 < 2 ^ 64 }
+        ensures { OnOk result (stand_of self.new
+            ≡ record { begun = suc self.old.begun; goals = goal_of goal.entry ∷ [] }) }
+    {
+        self.goals.push(goal)?;
+        self.begun += 1;
+        Ok(())
     }
 
     /// Takes the tag at a goal: its children come before the other goals. `false` exactly where the

@@ -3,7 +3,7 @@
 use Shape::{Cell, Ls, Tree};
 use sf_base::FieldId;
 use sf_core::Links;
-use sf_sym::{Atom, FieldTerms, State, Term};
+use sf_sym::{Atom, FieldTerms, Kind, State, Term};
 use std::alloc::{AllocError, Global};
 
 const NIL: Term = Term::Nil;
@@ -87,6 +87,15 @@ fn known<'a>(
     }
 }
 
+fn answers(s: &State) -> [bool; 4] {
+    [
+        s.differs(X, Y),
+        s.differs(NIL, X),
+        s.allocated(X, None),
+        s.is_absurd(),
+    ]
+}
+
 #[test]
 fn states_answer_as_they_should(rt: HostRuntime) -> Result<(), AllocError> {
     const NO: bool = false;
@@ -111,14 +120,10 @@ fn states_answer_as_they_should(rt: HostRuntime) -> Result<(), AllocError> {
         known(&[], &[Tree(NIL)], &[], [NO, NO, NO, NO]),
     ];
     for (i, r) in rows.iter().enumerate() {
-        let s = state(rt.alloc(), r.apart, r.kept, r.taken)?;
-        let answers = [
-            s.differs(X, Y),
-            s.differs(NIL, X),
-            s.allocated(X, None),
-            s.is_absurd(),
-        ];
-        assert_eq!(rt; answers, r.answers, "row {i}");
+        let mut s = state(rt.alloc(), r.apart, r.kept, r.taken)?;
+        assert_eq!(rt; answers(&s), r.answers, "row {i}");
+        s.settle();
+        assert_eq!(rt; answers(&s), r.answers, "row {i}, settled");
     }
     Ok(())
 }
@@ -131,5 +136,38 @@ fn an_atom_that_is_left_out_allocates_nothing(rt: HostRuntime) -> Result<(), All
     assert!(rt; !s.allocated(Y, Some(1)));
     assert!(rt; s.differs(NIL, FIVE));
     assert!(rt; !s.differs(FIVE, FIVE));
+    Ok(())
+}
+
+#[test]
+fn what_comes_after_a_state_was_settled_counts(rt: HostRuntime) -> Result<(), AllocError> {
+    let mut s = state(rt.alloc(), &[], &[Ls(X, Y)], &[])?;
+    s.settle();
+    assert_eq!(rt; s.forced(), None);
+    add(rt.alloc(), &mut s, Cell(X))?;
+    assert_eq!(rt; s.forced(), Some((1, X, Y)));
+    assert!(rt; !s.is_absurd());
+    s.settle();
+    s.assume_apart(Y, X)?;
+    assert!(rt; s.is_absurd());
+    Ok(())
+}
+
+#[test]
+fn the_lowest_atom_of_a_kind_is_found_at_its_term(rt: HostRuntime) -> Result<(), AllocError> {
+    let kept = [Ls(X, NIL), Cell(X), Cell(X), Ls(X, Y), Tree(Y)];
+    let s = state(rt.alloc(), &[], &kept, &[Cell(X)])?;
+    let rows = [
+        (X, Kind::Cell, Some(3)),
+        (Y, Kind::Cell, None),
+        (X, Kind::Segment, Some(2)),
+        (X, Kind::SegmentTo(Y), Some(5)),
+        (X, Kind::SegmentTo(X), None),
+        (X, Kind::Tree, None),
+        (Y, Kind::Tree, Some(6)),
+    ];
+    for (i, r) in rows.iter().enumerate() {
+        assert_eq!(rt; s.lowest_at(r.0, r.1), r.2, "row {i}");
+    }
     Ok(())
 }

@@ -33,10 +33,10 @@ not-same a b true l e = let same : a ≡ b = (Decides-eqb a b).0 e in absurd (om
 not-same a b false l e = refl
 
 -- the atom of a number that rises from those before it
-here : (y : Numbered) (ys : List Numbered) (n : ℕ) → y.number ≡ n → atom_at (y ∷ ys) n ≡ Some y.atom
+pub here : (y : Numbered) (ys : List Numbered) (n : ℕ) → y.number ≡ n → atom_at (y ∷ ys) n ≡ Some y.atom
 here y ys n e = ap (λ t. cond t (Some y.atom) (atom_at ys n)) ((Decides-eqb y.number n).1 e)
 
-later : (y : Numbered) (ys : List Numbered) (n : ℕ) → y.number < n → atom_at (y ∷ ys) n ≡ atom_at ys n
+pub later : (y : Numbered) (ys : List Numbered) (n : ℕ) → y.number < n → atom_at (y ∷ ys) n ≡ atom_at ys n
 later y ys n l =
     ap (λ t. cond t (Some y.atom) (atom_at ys n)) (not-same y.number n (y.number == n) l refl)
 

@@ -1,15 +1,14 @@
 -- Searches and stacks of goals.
 -- Names: `leads-LAW` of what a search has chosen so far.
-use Rattle.std.proofs.Common.{◌≡◌, Option, Some, None, IfSome, List, [], ◌∷◌, ◌++◌, length, map, refl, sym, ap, subst, append_assoc, arith, ◌∙◌}
+use Rattle.std.proofs.Common.{◌≡◌, Option, Some, None, IfSome, List, [], ◌∷◌, ◌++◌, length, map, refl, sym, ap, subst, append_assoc, arith}
 use Rattle.std.proofs.lemmas.List.{append-nil, reverse-append}
 use Rattle.sf_rules.specs.Checked.Children.{stack_of}
 use Rattle.sf_rules.specs.Checked.Lemmas.RowRules.{row-leaves}
 use Rattle.sf_rules.specs.Checked.Rows.Whole.{row}
 use Rattle.sf_rules.specs.Setting.{Setting}
 use Rattle.sf_search.specs.declared.choices.choice.Choice.TheVariants.{Takes as takes}
-use Rattle.sf_search.specs.Checked.Chooses.{chooses}
 use Rattle.sf_search.specs.Judge.{Chosen, Outcome}
-use Rattle.sf_search.proofs.Told.{told}
+use Rattle.sf_search.specs.Strategy.{strategy}
 use Rattle.sf_sym.specs.declared.tag.Tag.{Tag}
 use Rattle.sf_sym.specs.declared.goal.Goal.{Goal as CodeGoal}
 use Rattle.sf_sym.specs.Goal.{Goal, goal_of}
@@ -19,11 +18,11 @@ abbrev pub Leads : Setting → (from to : List Goal) → List Tag → Type 0
 Leads d from to tags = (rest : List Tag) (o : Outcome) → Chosen d to rest o → Chosen d from (tags ++ rest) o
 
 pub leads_on : (d : Setting) (from gs : List Goal) (g : Goal) (tags : List Tag) (tag : Tag) (left : List Goal)
-    → Leads d from (g ∷ gs) tags → chooses g ≡ takes tag → row d g tag ≡ Some left
+    → Leads d from (g ∷ gs) tags → strategy g ≡ takes tag → row d g tag ≡ Some left
     → Leads d from (left ++ gs) (tags ++ tag ∷ [])
 leads_on d from gs g tags tag left l c r =
     λ rest o h. subst (λ ts. Chosen d from ts o) (sym (append_assoc tags (tag ∷ []) rest))
-    (l (tag ∷ rest) o (sym (told g) ∙ c, left, row-leaves d g tag left r, h))
+    (l (tag ∷ rest) o (c, left, row-leaves d g tag left r, h))
 
 pub leads_end : (d : Setting) (from gs : List Goal) (tags : List Tag) (o : Outcome) → Leads d from gs tags
     → Chosen d gs [] o → Chosen d from tags o

@@ -1,4 +1,5 @@
 pub mod Lowest
+pub mod Seeking
 pub mod Views
 pub mod Trees
 pub mod Once
@@ -9,13 +10,4 @@ pub mod Rows
 pub mod Taken
 pub mod Reached
 pub mod Ending
-pub mod Settled
-pub mod OneRoot
-pub mod Fewer
-pub mod Grown
-pub mod Sole
-pub mod Growing
-pub mod KnownNext
-pub mod Kept
-pub mod StillKnown
 pub mod Leading

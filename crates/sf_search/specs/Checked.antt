@@ -2,10 +2,7 @@
 -- One module for each.
 pub mod Chooses
 pub mod Choosing
-pub mod Growth
-pub mod Holding
 pub mod Judging
-pub mod Knowing
 pub mod Laws
-pub mod Settled
+pub mod Seeking
 pub mod ShapeLaws

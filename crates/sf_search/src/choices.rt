@@ -2,13 +2,11 @@
 //! front.
 //!
 //! - `choice`: what the strategy does at a goal.
-//! - `atoms`: the lowest atom that is as wanted, and what is done where there is none.
+//! - `atoms`: what is done where a cell is wanted, and where a goal would be stuck.
 //! - `branches`: choices, by their test.
 //! - `commands`: commands.
 //! - `given`: what is to be assumed.
-//! - `growth`: what comes to a state behind the rest.
-//! - `holders`: what has a cell at a term.
-//! - `settled`: what is known of the next goal's state.
+//! - `seeking`: the lowest part that begins at a term.
 //! - `wanted`: what is to be shown.
 //! - `whole`: all of it.
 
@@ -17,14 +15,9 @@ mod branches;
 mod choice;
 mod commands;
 mod given;
-mod growth;
-mod holders;
-mod settled;
+mod seeking;
 mod wanted;
 mod whole;
 
 pub use choice::Choice;
-pub(crate) use growth::{Size, grown_bare, grown_roots, grows_settled, staying};
-pub(crate) use settled::{keeps_settled, leaves_possible};
 pub use whole::choose;
-pub(crate) use whole::{choose_in_front, choose_possible, choose_unknown};

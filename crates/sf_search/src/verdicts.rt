@@ -6,29 +6,22 @@ ghost use Rattle.std.specs.List.{slice_get};
 ghost use Rattle.sf_base.specs.Results.{Appends};
 ghost use Rattle.sf_precise.specs.Order.{IsOrdering};
 ghost use Rattle.sf_rules.specs.First.{first_goal as first_of};
-ghost use Rattle.sf_rules.specs.Checked.Children.{children_of, stack_of};
+ghost use Rattle.sf_rules.specs.Checked.Children.{stack_of};
 ghost use Rattle.sf_rules.specs.Checked.Rows.Whole.{row};
 ghost use Rattle.sf_rules.specs.Setting.{Setting, setting_of};
-ghost use Rattle.sf_search.specs.Checked.Growth.{staying};
-ghost use Rattle.sf_search.specs.Checked.Knowing.{IsKnownAfter};
-ghost use Rattle.sf_search.specs.Checked.Settled.{IsSettled};
 ghost use Rattle.sf_search.specs.Checked.ShapeLaws.{KeepsShape};
 ghost use Rattle.sf_search.specs.Ends.{EndsAs, FailsAs, failure};
-ghost use Rattle.sf_search.specs.Checked.Chooses.{chooses};
 ghost use Rattle.sf_search.specs.Judge.{Judge, Search, proof, proved};
+ghost use Rattle.sf_search.specs.Strategy.{strategy};
 ghost use Rattle.sf_sym.specs.Goal.{Goal as AnyGoal, goal_of};
-ghost use Rattle.sf_sym.specs.Tests.{is_absurd};
 ghost use Rattle.sf_sym.specs.declared.tag.Tag.TheVariants.{Procedure};
 
-use crate::choices::{
-    Choice, Size, choose_in_front, choose_possible, choose_unknown, grown_bare, grown_roots,
-    grows_settled, keeps_settled, leaves_possible, staying,
-};
+use crate::choices::{Choice, choose};
 use crate::laws::{arranged_is_set_up, goals_have_shape};
 use sf_base::ProcId;
 use sf_base::limits::{FILE_TAGS, PROCEDURE_TAGS};
 use sf_precise::Arranged;
-use sf_rules::{Children, RuleFault, apply_row, first_goal, push_children};
+use sf_rules::{RuleFault, apply_row, first_goal, push_children};
 use sf_sym::{Goal, Stuck, Tag};
 use std::alloc::{AllocError, AllocFailed, Global};
 
@@ -85,19 +78,6 @@ impl<'a> From<AllocError> for VerifyFault<'a> {
     }
 }
 
-/// What is known of the next goal's state.
-#[derive(Clone, Copy)]
-struct Known {
-    /// Whether the tests of the state are known to find nothing.
-    settled: bool,
-    /// Whether it is known not to be absurd.
-    possible: bool,
-    /// A number above all symbols at which its parts begin, if all begin at symbols.
-    roots: Option<u64>,
-    /// Whether it is known that no terms differ and no part is a cell.
-    bare: bool,
-}
-
 /// The tags of a proof of the procedure of that number, without its `procedure` tag. There is such
 /// a procedure. An `Err` says how the search ended.
 pub fn search<'a>(
@@ -137,45 +117,30 @@ fn search_from<'a>(
     let mut tags = Vec::new(alloc);
     let mut stack = Vec::new(alloc);
     stack.push(first)?;
-    let mut known = Known {
-        settled: false,
-        possible: false,
-        roots: None,
-        bare: false,
-    };
-    while let Some(goal) = stack.pop() {
-        goal.state.is_numbered();
-        let tag = match choose_knowing(alloc, &goal, known)? {
+    while let Some(mut goal) = stack.pop() {
+        let tag = match decide(alloc, &mut goal)? {
             Choice::Takes(tag) => tag,
             Choice::Stays(kind) => return Err(SearchFault::Stuck(goal, kind, tags.len())),
         };
         if tags.len() == PROCEDURE_TAGS {
             return Err(SearchFault::TooLarge);
         }
-        known = follow(alloc, arranged, &mut stack, &mut tags, goal, tag, known)?;
+        follow(alloc, arranged, &mut stack, &mut tags, goal, tag)?;
     }
     Ok(tags)
 }
 
-/// What the strategy does at the goal, of whose state something may be known. An `Err` means out of
-/// memory.
-fn choose_knowing(alloc: Global, goal: &Goal, known: Known) -> Result<Choice, AllocError>
-    requires settled { known.settled ≡ true → IsSettled goal.now.state }
-    requires possible { known.possible ≡ true → is_absurd goal.now.state ≡ false }
-    ensures { IfOk result (λ c. c ≡ chooses (goal_of goal.now)) }
+/// What the strategy does at the goal, which stays what it is. An `Err` means out of memory.
+fn decide(alloc: Global, goal: &mut Goal) -> Result<Choice, AllocError>
+    ensures same { goal.new ≡ goal.old }
+    ensures choice { IfOk result (λ c. c ≡ strategy (goal_of goal.old)) }
 {
-    if known.settled {
-        choose_in_front(alloc, goal)
-    } else if known.possible {
-        choose_possible(alloc, goal)
-    } else {
-        choose_unknown(alloc, goal)
-    }
+    goal.state.settle();
+    choose(alloc, goal)
 }
 
 /// Takes the tag at a goal, where it has a row: what it leaves goes on the stack, and the tag after
-/// the tags. Where what is known of the goal's state is so, and the strategy takes the tag, the
-/// answer says what is known of the next goal's state. An `Err` means out of memory.
+/// the tags. An `Err` means out of memory.
 fn follow<'a>(
     alloc: Global,
     arranged: &'a Arranged,
@@ -183,50 +148,24 @@ fn follow<'a>(
     tags: &mut Vec<Tag>,
     goal: Goal<'a>,
     tag: Tag,
-    known: Known,
-) -> Result<Known, AllocError>
+) -> Result<(), AllocError>
     ghost d: { Setting }
     requires ordered { IsOrdering d.ordered }
     requires setting { d ≡ setting_of d.ordered arranged.now }
     requires row { is_some (row d (goal_of goal) tag) ≡ true }
-    ensures left { IfOk result (λ next. (left : List AnyGoal)
+    ensures left { IfOk result (λ _. (left : List AnyGoal)
         × (row d (goal_of goal.entry) tag ≡ Some left)
-        × (stack_of stack.new.items ≡ left ++ stack_of stack.old.items)
-        × IsKnownAfter tag known (staying tag known.roots known.bare goal.entry.state) left next) }
+        × (stack_of stack.new.items ≡ left ++ stack_of stack.old.items)) }
     ensures tags { Appends result tags.old.items tags.new.items (tag ∷ []) }
 {
-    let staying = staying(tag, known.roots, known.bare, &goal.state);
     match apply_row(alloc, arranged, goal, tag) {
         Ok(left) => {
-            let next = known_after(tag, known, staying, &left);
             push_children(stack, left)?;
             tags.push(tag)?;
-            Ok(next)
+            Ok(())
         }
         Err(RuleFault::NotARule) => unreachable!(),
         Err(RuleFault::OutOfMemory) => Err(AllocError),
-    }
-}
-
-/// What is known of the state of the first of the goals that a tag leaves.
-fn known_after(tag: Tag, known: Known, staying: Option<Size>, left: &Children) -> Known
-    ensures { IsKnownAfter tag known staying (children_of left.now) result }
-{
-    let possible = leaves_possible(tag);
-    if keeps_settled(tag) {
-        return Known {
-            settled: true,
-            possible,
-            roots: known.roots,
-            bare: known.bare,
-        };
-    }
-    let grown = grows_settled(staying, left);
-    Known {
-        settled: grown,
-        possible,
-        roots: grown_roots(grown, staying, left),
-        bare: grown_bare(grown, staying, left),
     }
 }
 

@@ -21,7 +21,7 @@ below-each n (x ∷ xs) all a c = elim ((contains-cons x xs a).0 c) [
 
 module _ (test : Numbered → Bool) (x : Numbered) (xs : List Numbered) where
   -- one that passes the test, before others with higher numbers
-  lowest-here : AreRising (numbers (x ∷ xs)) → test x ≡ true → IsLowest test (x ∷ xs) (Some x.number)
+  pub lowest-here : AreRising (numbers (x ∷ xs)) → test x ≡ true → IsLowest test (x ∷ xs) (Some x.number)
   lowest-here r e = (
     (x, (contains-cons x xs x).1 (inl refl), refl, e),
     λ a c t. elim ((contains-cons x xs a).0 c) [
@@ -31,7 +31,7 @@ module _ (test : Numbered → Bool) (x : Numbered) (xs : List Numbered) where
   )
 
   -- one that doesn't
-  lowest-later : (o : Option ℕ) → test x ≡ false → IsLowest test xs o → IsLowest test (x ∷ xs) o
+  pub lowest-later : (o : Option ℕ) → test x ≡ false → IsLowest test xs o → IsLowest test (x ∷ xs) o
   lowest-later None e h = λ a c. elim ((contains-cons x xs a).0 c) [
     | inl here ↦ subst (λ z. test z ≡ false) here e
     | inr there ↦ h a there

@@ -1,14 +1,11 @@
 -- Lists of variables with their terms: what the code does that sets and removes in them.
 -- Names: `insert-LAW` speaks of a list in which one is set, `removed-LAW` of one from which one is
 -- removed, `insert_vars-LAW` and `delete-LAW` of both as updates.
-use Rattle.std.proofs.Common.{◌≡◌, ℕ, suc, ◌==◌, ◌+◌, Bool, true, false, ◌&&◌, ◌||◌, IsTrue, cond, nat_lt, Some, None, List, [], ◌∷◌, slice_get, slice_set, map, refl, sym, ap, ◌∙◌, subst, arith}
+use Rattle.std.proofs.Common.{◌≡◌, ℕ, suc, ◌+◌, Bool, true, false, cond, Some, None, List, [], ◌∷◌, slice_get, slice_set, map, refl, sym, ap, ◌∙◌, arith}
 use Rattle.std.specs.List.{insert, remove, position, position_from}
 use Rattle.std.proofs.lemmas.Iterator.Adapters.{position_from-zero}
-use Rattle.std.proofs.lemmas.Bool.Decides.{nat_tests}
 use Rattle.sf_base.specs.declared.ids.Var.{Var}
-use Rattle.sf_base.specs.declared.ids.Var.TheVariants.{Own, Shared}
 use Rattle.sf_base.specs.Variables.{same_var}
-use Rattle.sf_base.proofs.Variables.{same_var-decides}
 use Rattle.sf_sym.specs.declared.term.Term.{Term}
 use Rattle.sf_sym.specs.Checked.VariablePlaces.{is_var, place_of}
 use Rattle.sf_sym.specs.Checked.Insertion.{delete_var, insert_var, insert_vars}

@@ -15,5 +15,6 @@ pub mod Decided
 pub mod Ready
 pub mod Shape
 pub mod Known
+pub mod Kinds
 pub mod Numbers
 pub mod Checked

@@ -1,12 +1,14 @@
-//! A number above the symbols of conjuncts: a symbol that isn't below it occurs in none of them.
+//! A number above the symbols of conjuncts or atoms: a symbol that isn't below it occurs in none of
+//! them.
 
 ghost use Rattle.std.specs.Prelude.{◌≡◌, ◌≤◌, ◌<◌, ℕ, None, Some, get_or};
 ghost use Rattle.sf_core.specs.Assertions.Occurs.{OccursIn, OccursInFields, OccursInOne, OccursInTest};
 ghost use Rattle.sf_core.specs.Program.View.{conjunct_of, level_of};
-ghost use Rattle.sf_sym.specs.Below.{IsBelow};
+ghost use Rattle.sf_sym.specs.Below.{AllInAtom, AllPaired, IsBelow};
 ghost use Rattle.sf_sym.specs.Checked.Above.{ConjunctsBelow, OccurBelow};
 ghost use Rattle.sf_sym.specs.declared.term.Term.{Term as TermOf};
 
+use crate::atom::Atom;
 use crate::term::Term;
 use sf_base::FieldId;
 use sf_core::{Conjunct, Level, Operand, Test};
@@ -23,6 +25,42 @@ pub(crate) fn above_term(least: u64, t: Term) -> u64
         } else {
             u64::from(n) + 1
         }
+    }
+}
+
+/// The same of two terms.
+pub(crate) fn above_terms(least: u64, t: Term, u: Term) -> u64
+    ensures least { least ≤ result }
+    ensures first { IsBelow result t }
+    ensures second { IsBelow result u }
+{
+    let above = above_term(least, t);
+    above_term(above, u)
+}
+
+/// The same of the terms of a cell's fields.
+fn above_known(least: u64, fields: &[(FieldId, Term)]) -> u64
+    ensures least { least ≤ result }
+    ensures below { AllPaired (IsBelow result) fields.now }
+{
+    let mut above = least;
+    let mut left = fields;
+    while let Some((first, rest)) = left.split_first() {
+        above = above_term(above, first.1);
+        left = rest;
+    }
+    above
+}
+
+/// The same of an atom.
+pub(crate) fn above_atom(least: u64, atom: &Atom) -> u64
+    ensures least { least ≤ result }
+    ensures below { AllInAtom (IsBelow result) atom.now }
+{
+    match atom {
+        Atom::Points(t, fields) => above_known(above_term(least, *t), fields.as_slice()),
+        Atom::Ls(t, u) => above_terms(least, *t, *u),
+        Atom::Tree(t) => above_term(least, *t),
     }
 }
 

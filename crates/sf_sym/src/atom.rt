@@ -1,8 +1,7 @@
 ghost use Rattle.std.specs.Prelude.{◌≡◌, IfOk};
-ghost use Rattle.std.specs.List.{list_any};
 ghost use Rattle.std.specs.Option.{option_map};
 ghost use Rattle.sf_sym.specs.Cells.{fields_at};
-ghost use Rattle.sf_sym.specs.Tests.{begins, is_constant, root, roots};
+ghost use Rattle.sf_sym.specs.Tests.{begins, root};
 
 use crate::fields::FieldTerms;
 use crate::term::Term;
@@ -29,6 +28,19 @@ pub struct Numbered {
     pub atom: Atom,
 }
 
+/// What an atom is at a term.
+#[derive(Clone, Copy, Debug)]
+pub enum Kind {
+    /// A cell there.
+    Cell,
+    /// A segment from there.
+    Segment,
+    /// A segment from there up to that term.
+    SegmentTo(Term),
+    /// A tree there.
+    Tree,
+}
+
 impl Atom {
     /// The first term at which it begins.
     pub fn root(&self) -> Term
@@ -45,15 +57,6 @@ impl Atom {
     {
         match self {
             Atom::Points(r, _) | Atom::Ls(r, _) | Atom::Tree(r) => r.is(t),
-        }
-    }
-
-    /// Whether it begins at a constant.
-    pub(crate) fn begins_at_constant(&self) -> bool
-        ensures { result ≡ list_any is_constant (roots self.now) }
-    {
-        match self {
-            Atom::Points(r, _) | Atom::Ls(r, _) | Atom::Tree(r) => r.is_constant(),
         }
     }
 

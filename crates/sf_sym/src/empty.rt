@@ -1,18 +1,14 @@
-//! Atoms that can only be empty.
+//! Atoms that can only be empty, and the lowest atom of a kind.
 
 ghost use Rattle.std.specs.Prelude.{◌≡◌, is_some};
-ghost use Rattle.std.specs.BTreeSet.{contains};
 ghost use Rattle.std.specs.Option.{option_and_then, option_map};
-ghost use Rattle.std.specs.Ordering.{nat_cmp};
-ghost use Rattle.sf_sym.specs.Checked.OwnRoots.{first_unsettled, pair_at_constant, unsettled_pair};
 ghost use Rattle.sf_sym.specs.Cells.{atom_at};
+ghost use Rattle.sf_sym.specs.Kinds.{is_kind};
 ghost use Rattle.sf_sym.specs.Known.{IsLowest, ends, first_forced, first_nothing, forced_by, forced_pair, is_elsewhere, is_nothing};
 
-use crate::atom::{Atom, Numbered};
-use crate::roots::{first_at_constant, is_settled};
+use crate::atom::{Atom, Kind};
 use crate::state::State;
 use crate::term::Term;
-use std::collections::BTreeSet;
 
 impl Atom {
     /// Whether it is an empty segment or tree: from a term to itself, or from nil.
@@ -48,13 +44,6 @@ impl Atom {
             Atom::Points(..) | Atom::Ls(..) | Atom::Tree(_) => None,
         }
     }
-
-    /// The same where the root, a constant, tells that.
-    pub(crate) fn pair_at_constant(&self) -> Option<(Term, Term)>
-        ensures { result ≡ pair_at_constant self.now }
-    {
-        self.forced_by(self.root().is_constant())
-    }
 }
 
 impl State {
@@ -87,21 +76,7 @@ impl State {
         ensures lowest { IsLowest (λ a. is_nothing a.atom) self.now.atoms result }
     {
         self.is_numbered();
-        self.first_nothing()
-    }
-
-    /// The number of the first of them.
-    fn first_nothing(&self) -> Option<u32>
-        ensures { result ≡ first_nothing self.now.atoms }
-    {
-        let mut left = self.atoms();
-        while let Some((first, rest)) = left.split_first() {
-            if first.atom.is_nothing() {
-                return Some(first.number);
-            }
-            left = rest;
-        }
-        None
+        self.store.droppable()
     }
 
     /// The lowest number of an atom that can only be empty though two terms that are the same then
@@ -115,48 +90,18 @@ impl State {
         self.first_forced()
     }
 
-    /// The first of them. Atoms are compared with each other only where two begin at one symbol.
+    /// The first of them.
     fn first_forced(&self) -> Option<(u32, Term, Term)>
         ensures { result ≡ first_forced self.now self.now.atoms }
     {
-        if self.have_own_roots() {
-            return first_at_constant(self.atoms());
-        }
-        if let Some(cells) = self.own_cells() {
-            return self.first_unsettled(&cells);
-        }
-        let mut left = self.atoms();
-        while let Some((first, rest)) = left.split_first() {
-            if let Some((t, u)) = self.forced_pair(first.number, &first.atom) {
-                return Some((first.number, t, u));
-            }
-            left = rest;
-        }
-        None
+        self.store.forced()
     }
 
-    /// The first of those that are forced, with the two terms, where these are the symbols of cells
-    /// and no two atoms have a cell at the same one.
-    fn first_unsettled(&self, cells: &BTreeSet<u32>) -> Option<(u32, Term, Term)>
-        ensures { result ≡ first_unsettled (contains nat_cmp cells.now) self.now self.now.atoms }
+    /// The lowest number of an atom that is of that kind at the term. `None` exactly where there is
+    /// none.
+    pub fn lowest_at(&self, t: Term, kind: Kind) -> Option<u32>
+        ensures { IsLowest (λ a. is_kind kind t a.atom) self.now.atoms result }
     {
-        let mut left = self.atoms();
-        while let Some((first, rest)) = left.split_first() {
-            if let Some((t, u)) = self.unsettled_pair(cells, first) {
-                return Some((first.number, t, u));
-            }
-            left = rest;
-        }
-        None
-    }
-
-    /// The two terms of an atom that is forced; its root is looked at only if it isn't settled.
-    fn unsettled_pair(&self, cells: &BTreeSet<u32>, a: &Numbered) -> Option<(Term, Term)>
-        ensures { result ≡ unsettled_pair (contains nat_cmp cells.now) self.now a.now }
-    {
-        if is_settled(cells, self.apart(), &a.atom) {
-            return a.atom.forced_by(false);
-        }
-        self.forced_pair(a.number, &a.atom)
+        self.store.lowest_at(t, kind)
     }
 }

@@ -47,8 +47,7 @@ pub struct Goal<'a> {
 impl Goal<'_> {
     /// Assumes that the two terms are the same: one that is a symbol is replaced by the other
     /// wherever it occurs, of two symbols the greater. Two constants can't be the same, and then
-    /// nil is to differ from itself. Memory is wanted for that alone: an `Err` means that there is
-    /// none, and then nothing changes.
+    /// nil is to differ from itself. An `Err` means out of memory, and then nothing changes.
     pub fn assume_equal(&mut self, t: Term, u: Term) -> Result<(), AllocError>
         ensures ok { OnOk result (goal_of self.new ≡ assumed_equal t u (goal_of self.old)) }
         ensures err { OnErr result (self.new ≡ self.old) }
@@ -57,10 +56,7 @@ impl Goal<'_> {
             return Ok(());
         }
         match Replacement::between(t, u) {
-            Some(r) => {
-                self.replace(r);
-                Ok(())
-            }
+            Some(r) => self.replace(r),
             None => self.assume_apart(Term::Nil, Term::Nil),
         }
     }
@@ -74,11 +70,14 @@ impl Goal<'_> {
         Ok(())
     }
 
-    /// Replaces a symbol by a term.
-    fn replace(&mut self, r: Replacement)
-        ensures { goal_of self.new ≡ goal_with (put_for r.symbol r.by) (goal_of self.old) }
+    /// Replaces a symbol by a term. An `Err` means out of memory, and then nothing changes.
+    fn replace(&mut self, r: Replacement) -> Result<(), AllocError>
+        ensures ok { OnOk result
+            (goal_of self.new ≡ goal_with (put_for r.symbol r.by) (goal_of self.old)) }
+        ensures err { OnErr result (self.new ≡ self.old) }
     {
-        self.state.replace(r);
+        self.state.replace(r)?;
         r.in_items(&mut self.todo);
+        Ok(())
     }
 }

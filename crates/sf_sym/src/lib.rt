@@ -5,14 +5,21 @@
 //! - `term`: values as a state knows them.
 //! - `atom`: the parts of a heap, as a state knows them.
 //! - `fields`: the terms of a cell's fields.
-//! - `roots`: whether no two atoms of a state begin at one symbol.
 //! - `parts`: the parts of a state's heap, and how one is found and goes.
+//! - `outline`: what the tests of a state ask of an atom.
+//! - `rows`: outlines of atoms by terms.
+//! - `marks`: atoms that are still to be tested.
+//! - `pairs`: the pairs of terms that differ.
+//! - `index`: what a state keeps beside its parts.
+//! - `made`: indices that are made of all parts anew.
+//! - `store`: the parts and pairs of a state with their index, and the primitive changes of them.
 //! - `state`: states, and the primitive changes of them.
 //! - `known`: the tests of a state.
 //! - `decided`: which terms operands have.
-//! - `empty`: atoms that can only be empty.
+//! - `empty`: atoms that can only be empty, and the lowest atom of a kind.
+//! - `found`: these tests, by what is kept beside the parts of a heap.
 //! - `pending`: conjuncts that are still to be assumed or to be shown.
-//! - `above`: a number above the symbols of conjuncts.
+//! - `above`: a number above the symbols of conjuncts and atoms.
 //! - `goal`: a state, and what is still to do from there.
 //! - `todo`: the items of a goal.
 //! - `copy`: copies of goals.
@@ -26,26 +33,34 @@
 
 mod above;
 mod atom;
+mod atoms;
 mod copy;
 mod decided;
 mod empty;
 pub mod examples;
 mod fields;
+mod found;
 mod goal;
+mod index;
 mod known;
 pub mod laws;
+mod made;
+mod marks;
+mod outline;
+mod pairs;
 mod parts;
 mod pending;
 mod replace;
-mod roots;
+mod rows;
 mod state;
+mod store;
 mod stuck;
 mod tag;
 mod term;
 mod todo;
 mod vars;
 
-pub use atom::{Atom, Numbered};
+pub use atom::{Atom, Kind, Numbered};
 pub use decided::term_of;
 pub use fields::{FieldTerms, field_term};
 pub use goal::{Goal, Item};

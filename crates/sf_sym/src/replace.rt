@@ -1,12 +1,16 @@
-//! Replacing a symbol by a term wherever it occurs, in place. No memory is wanted for it.
+//! Replacing a symbol by a term wherever it occurs, in place.
 
-ghost use Rattle.std.specs.Prelude.{◌≡◌, cond, map};
+ghost use Rattle.std.specs.Prelude.{◌≡◌, ◌||◌, cond, map};
+ghost use Rattle.std.specs.List.{list_any};
 ghost use Rattle.std.specs.Option.{option_map};
 ghost use Rattle.sf_core.specs.Program.View.{conjunct_of, level_of};
 ghost use Rattle.sf_sym.specs.Equalities.{atom_with, item_with, numbered_with, pending_with, put_for, which_goes};
 ghost use Rattle.sf_sym.specs.Goal.{items_of};
 ghost use Rattle.sf_sym.specs.Mapped.{conjunct_with, level_with, operand_with, test_with};
+ghost use Rattle.sf_sym.specs.Checked.Rows.{has_term};
 ghost use Rattle.sf_sym.specs.Pending.{pending_of};
+ghost use Rattle.sf_sym.specs.Tests.{same_term};
+ghost use Rattle.sf_sym.specs.declared.term.Term.TheVariants.{Sym};
 
 use crate::atom::{Atom, Numbered};
 use crate::goal::Item;
@@ -38,6 +42,43 @@ impl Replacement {
         Some(Replacement { symbol, by })
     }
 
+    /// What stands for a term.
+    pub(crate) fn term(self, t: Term) -> Term
+        ensures { result ≡ put_for self.symbol self.by t }
+    {
+        match t {
+            Term::Sym(n) if n == self.symbol => self.by,
+            _ => t,
+        }
+    }
+
+    /// Whether the symbol is in one of the pairs.
+    pub(crate) fn is_in_pairs(self, pairs: &[(Term, Term)]) -> bool
+        ensures { result ≡ list_any (λ p. same_term p.0 (Sym self.symbol)
+            || same_term p.1 (Sym self.symbol)) pairs.now }
+    {
+        let s = Term::Sym(self.symbol);
+        pairs.iter().any(|p| p.0.is(s) || p.1.is(s))
+    }
+
+    /// Whether it is in the outline of one of the atoms, as more than the term of a field.
+    pub(crate) fn is_in_outlines(self, atoms: &[Numbered]) -> bool
+        ensures { result ≡ list_any (λ a. has_term (Sym self.symbol) a.atom) atoms.now }
+    {
+        atoms.iter().any(|a| self.is_in_outline(&a.atom))
+    }
+
+    /// Whether it is in that of the atom.
+    fn is_in_outline(self, atom: &Atom) -> bool
+        ensures { result ≡ has_term (Sym self.symbol) atom.now }
+    {
+        let s = Term::Sym(self.symbol);
+        match atom {
+            Atom::Points(t, _) | Atom::Tree(t) => t.is(s),
+            Atom::Ls(t, u) => t.is(s) || u.is(s),
+        }
+    }
+
     /// In a term.
     fn in_term(self, t: &mut Term)
         ensures { t.new ≡ put_for self.symbol self.by t.old }
@@ -55,17 +96,6 @@ impl Replacement {
     {
         for x in vars.iter_mut() {
             self.in_term(&mut x.1);
-        }
-    }
-
-    /// In pairs of terms.
-    pub(crate) fn in_pairs(self, pairs: &mut [(Term, Term)])
-        ensures { pairs.new ≡ map
-            (λ p. (put_for self.symbol self.by p.0, put_for self.symbol self.by p.1)) pairs.old }
-    {
-        for p in pairs.iter_mut() {
-            self.in_term(&mut p.0);
-            self.in_term(&mut p.1);
         }
     }
 

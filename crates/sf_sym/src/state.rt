@@ -13,10 +13,10 @@ ghost use Rattle.sf_sym.specs.declared.atom.Atom.{Atom as AtomOf};
 ghost use Rattle.sf_sym.specs.declared.term.Term.{Term as TermOf};
 ghost use Rattle.sf_sym.specs.declared.term.Term.TheVariants.{Sym};
 
-use crate::atom::{Atom, Numbered, copy_all};
+use crate::atom::{Atom, Numbered};
 use crate::fields::FieldTerms;
-use crate::parts::Parts;
 use crate::replace::Replacement;
+use crate::store::Store;
 use crate::term::Term;
 use crate::vars::{VarTerms, term_at};
 use sf_base::{FieldId, Var};
@@ -26,28 +26,34 @@ use std::marker::Model;
 
 /// What is known of the variables and of the heap at one point of a procedure. Contracts see it as
 /// the record `State`; what isn't listed there is how the code finds things.
-#[derive(Drop)]
 pub struct State {
     links: Links,
     vars: VarTerms,
-    apart: Vec<(Term, Term)>,
-    atoms: Parts,
-    taken: Vec<Numbered>,
     next_sym: u32,
-    next_atom: u32,
+    pub(crate) store: Store,
+}
+
+impl Drop for State {
+    fn drop(self) {
+        let State {
+            links: _,
+            vars: _,
+            next_sym: _,
+            store: _,
+        } = self;
+    }
 }
 
 impl Model for State {
-    ghost use Rattle.sf_sym.specs.State.{State as Known, state_of};
+    ghost use Rattle.sf_sym.specs.State.{State as Known};
 
     ghost Value = { Known };
 
-    ghost use Rattle.sf_sym.specs.Numbers.{AreNumbered, numbers};
+    ghost use Rattle.sf_sym.specs.Checked.Stores.{Kept, heap, state_in};
 
-    ghost invariant = { λ s. AreNumbered (numbers s.atoms) (numbers s.taken.items) s.next_atom };
+    ghost invariant = { λ s. Kept s.store };
 
-    ghost view = { λ s. state_of s.links s.vars s.apart.items s.atoms s.taken.items s.next_sym
-        s.next_atom };
+    ghost view = { λ s. state_in s.links s.vars s.next_sym (heap s.store) };
 }
 
 impl State {
@@ -61,11 +67,8 @@ impl State {
         State {
             links,
             vars: VarTerms::from_vec(vars),
-            apart: Vec::new(alloc),
-            atoms: Parts::new(alloc),
-            taken: Vec::new(alloc),
             next_sym,
-            next_atom: 1,
+            store: Store::new(alloc),
         }
     }
 
@@ -76,17 +79,9 @@ impl State {
         Ok(State {
             links: self.links,
             vars: self.vars.copy(alloc)?,
-            apart: Vec::from_slice(alloc, &self.apart)?,
-            atoms: self.atoms.copy(alloc)?,
-            taken: copy_all(alloc, &self.taken)?,
             next_sym: self.next_sym,
-            next_atom: self.next_atom,
+            store: self.store.copy(alloc)?,
         })
-    }
-
-    /// What its lists allocate by.
-    pub(crate) fn alloc(&self) -> Global {
-        self.atoms.alloc()
     }
 
     /// The fields by which segments and trees go.
@@ -107,14 +102,14 @@ impl State {
     pub fn apart(&self) -> &[(Term, Term)]
         ensures { result.now ≡ self.now.apart }
     {
-        self.apart.as_slice()
+        self.store.apart.as_slice()
     }
 
     /// The parts of the heap, in order of their numbers.
     pub fn atoms(&self) -> &[Numbered]
         ensures { result.now ≡ self.now.atoms }
     {
-        self.atoms.as_slice()
+        self.store.atoms.as_slice()
     }
 
     /// The parts that were handed over in the subtraction now under way, in the order in which they
@@ -122,7 +117,7 @@ impl State {
     pub fn taken(&self) -> &[Numbered]
         ensures { result.now ≡ self.now.taken }
     {
-        self.taken.as_slice()
+        self.store.taken.as_slice()
     }
 
     /// The number of the next symbol.
@@ -136,7 +131,7 @@ impl State {
     pub fn next_atom(&self) -> u32
         ensures { result ≡ self.now.next_atom }
     {
-        self.next_atom
+        self.store.next_atom
     }
 
     /// The numbers of the atoms rise, the taken ones have others, and all are below the next one.
@@ -144,7 +139,7 @@ impl State {
     pub fn is_numbered(&self)
         ensures { AreNumbered (numbers self.now.atoms) (numbers self.now.taken) self.now.next_atom }
     {
-        let _next = self.next_atom;
+        let _next = self.store.next_atom;
     }
 
     /// The known fields of the atom of that number, where it is a cell at that term.
@@ -152,14 +147,14 @@ impl State {
     pub fn cell(&self, a: u32, root: Term) -> Option<&[(FieldId, Term)]>
         ensures { option_map (λ x. x.now) result ≡ cell_at self.now.atoms a root }
     {
-        self.atoms.atom(a)?.fields_at(root)
+        self.store.atoms.atom(a)?.fields_at(root)
     }
 
     /// The atom of that number.
     pub fn atom(&self, a: u32) -> Option<&Atom>
         ensures { option_map (λ x. x.now) result ≡ atom_at self.now.atoms a }
     {
-        self.atoms.atom(a)
+        self.store.atoms.atom(a)
     }
 
     /// The term of a variable, `Nil` where it has none.
@@ -244,15 +239,14 @@ impl State {
     pub fn clear_taken(&mut self)
         ensures { self.new ≡ record self.old { taken = [] } }
     {
-        self.taken.clear();
+        self.store.clear_taken();
     }
 
     /// Forgets the parts of the heap, and those that were handed over.
     pub fn clear_heap(&mut self)
         ensures { self.new ≡ record self.old { atoms = []; taken = [] } }
     {
-        self.atoms.clear();
-        self.taken.clear();
+        self.store.clear_heap();
     }
 
     /// One more atom, with the next number. An `Err` means out of memory, and then nothing changes.
@@ -261,9 +255,7 @@ impl State {
         ensures ok { OnOk result (self.new ≡ with_atom atom self.old) }
         ensures err { OnErr result (self.new ≡ self.old) }
     {
-        let number = self.next_atom;
-        self.atoms.push(Numbered { number, atom })?;
-        self.next_atom = number + 1;
+        self.store.add_atom(atom)?;
         Ok(())
     }
 
@@ -272,7 +264,7 @@ impl State {
         ensures atom { result ≡ atom_at self.old.atoms a }
         ensures others { self.new ≡ record self.old { atoms = without self.old.atoms a } }
     {
-        self.atoms.take_out(a)
+        self.store.remove_atom(a)
     }
 
     /// One more cell: it has the next number, and a symbol at which it is differs from nil. An
@@ -282,13 +274,7 @@ impl State {
         ensures ok { OnOk result (self.new ≡ with_cell self.old root fields) }
         ensures err { OnErr result (self.new ≡ self.old) }
     {
-        self.apart.reserve(1)?;
-        self.atoms.push(Numbered {
-            number: self.next_atom,
-            atom: Atom::Points(root, fields),
-        })?;
-        put_apart_from_nil(&mut self.apart, root);
-        self.next_atom += 1;
+        self.store.add_cell(root, fields)?;
         Ok(())
     }
 
@@ -297,18 +283,18 @@ impl State {
         ensures ok { OnOk result (self.new ≡ with_pair t u self.old) }
         ensures err { OnErr result (self.new ≡ self.old) }
     {
-        self.apart.push((t, u))?;
+        self.store.assume_apart(t, u)?;
         Ok(())
     }
 
-    /// Replaces a symbol by a term.
-    pub(crate) fn replace(&mut self, r: Replacement)
-        ensures { self.new ≡ state_with (put_for r.symbol r.by) self.old }
+    /// Replaces a symbol by a term. An `Err` means out of memory, and then nothing changes.
+    pub(crate) fn replace(&mut self, r: Replacement) -> Result<(), AllocError>
+        ensures ok { OnOk result (self.new ≡ state_with (put_for r.symbol r.by) self.old) }
+        ensures err { OnErr result (self.new ≡ self.old) }
     {
+        self.store.replace(r)?;
         self.vars.replace(r);
-        r.in_pairs(&mut self.apart);
-        self.atoms.replace(r);
-        r.in_atoms(&mut self.taken);
+        Ok(())
     }
 
     /// Writes a field of the cell of that number at the root. An `Err` means out of memory, and
@@ -318,7 +304,7 @@ impl State {
         ensures ok { OnOk result (state_after_write self.old root f u a ≡ Some self.new) }
         ensures err { OnErr result (self.new ≡ self.old) }
     {
-        self.atoms.write_field(a, root, f, u)?;
+        self.store.write_field(a, root, f, u)?;
         Ok(())
     }
 
@@ -342,11 +328,7 @@ impl State {
             → self.new ≡ handed self.old a x) }
         ensures err { OnErr result (self.new ≡ self.old) }
     {
-        self.taken.reserve(1)?;
-        let Some(atom) = self.atoms.take_out(a) else {
-            unreachable!();
-        };
-        self.taken.push_reserved(Numbered { number: a, atom });
+        self.store.hand_over_atom(a)?;
         Ok(())
     }
 
@@ -366,12 +348,7 @@ impl State {
             ≡ after_hand_over (record self.old { next_sym = next_sym }) root fields a) }
         ensures err { OnErr result (self.new ≡ self.old) }
     {
-        self.taken.reserve(1)?;
-        self.atoms.take_out(a);
-        self.taken.push_reserved(Numbered {
-            number: a,
-            atom: Atom::Points(root, fields),
-        });
+        self.store.hand_over_cell(a, root, fields)?;
         self.next_sym = next_sym;
         Ok(())
     }
@@ -387,15 +364,5 @@ impl State {
     {
         self.hand_over_atom(a)?;
         Ok(())
-    }
-}
-
-/// One more pair, if the term is a symbol: it differs from nil. There is room for the pair.
-fn put_apart_from_nil(apart: &mut Vec<(Term, Term)>, t: Term)
-    requires { vec_len apart.old < vec_capacity apart.old }
-    ensures { apart.new.items ≡ apart.old.items ++ apart_from_nil t }
-{
-    if let Term::Sym(_) = t {
-        apart.push_reserved((t, Term::Nil));
     }
 }

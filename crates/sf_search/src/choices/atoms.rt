@@ -1,133 +1,16 @@
-//! The lowest atom of which something is so, and what is done where a cell is wanted and there is
-//! none.
+//! What is done where a cell is wanted, and where a goal would be stuck: the lowest part of the heap
+//! of which it isn't known whether it is empty is split.
 
-ghost use Rattle.std.specs.Prelude.{◌≡◌, MatchResult, None, Some, is_some};
+ghost use Rattle.std.specs.Prelude.{◌≡◌, MatchResult, None, Some};
 ghost use Rattle.std.specs.Option.{option_map};
-ghost use Rattle.sf_consume.specs.Subtract.{is_same_shape};
-ghost use Rattle.sf_search.specs.Checked.Settled.{IsSettled};
 ghost use Rattle.sf_search.specs.Checked.Chooses.{opened, opened_by, split_or};
-ghost use Rattle.sf_search.specs.Strategy.{lower, lowest, or_else, segment_at, tree_at, undecided_ends, which};
+ghost use Rattle.sf_search.specs.Strategy.{lower, lowest, or_else, undecided_ends};
 ghost use Rattle.sf_sym.specs.Cells.{fields_at};
 ghost use Rattle.sf_sym.specs.Tests.{parts};
 
 use crate::choices::choice::Choice;
-use crate::choices::holders::{Holder, held_at, sole_cell};
-use sf_consume::is_same_shape;
+use crate::choices::seeking::{lowest_cell, lowest_segment, lowest_tree};
 use sf_sym::{Atom, Numbered, State, Stuck, Tag, Term};
-
-/// The number of the lowest cell at the term.
-pub(crate) fn lowest_cell(state: &State, t: Term) -> Option<u32>
-    requires { IsSettled state.now }
-    ensures { result ≡ option_map (λ f. f.0) (lowest (λ x. fields_at x t) state.now.atoms) }
-{
-    match sole_cell(state, t) {
-        Some(a) => Some(a),
-        None => first_cell(state, t),
-    }
-}
-
-/// The same by a look at the parts in order.
-fn first_cell(state: &State, t: Term) -> Option<u32>
-    ensures { result ≡ option_map (λ f. f.0) (lowest (λ x. fields_at x t) state.now.atoms) }
-{
-    state.is_numbered();
-    let mut left = state.atoms();
-    while let Some((first, rest)) = left.split_first() {
-        if is_cell_at(&first.atom, t) {
-            return Some(first.number);
-        }
-        left = rest;
-    }
-    None
-}
-
-/// Whether it is a cell at the term.
-fn is_cell_at(atom: &Atom, t: Term) -> bool
-    ensures { result ≡ is_some (fields_at atom.now t) }
-{
-    match atom {
-        Atom::Points(root, _) => root.is(t),
-        Atom::Ls(..) | Atom::Tree(_) => false,
-    }
-}
-
-/// The number of the lowest segment from the term, and its end.
-pub(crate) fn lowest_segment(state: &State, t: Term) -> Option<(u32, Term)>
-    ensures { result ≡ lowest (segment_at t) state.now.atoms }
-{
-    state.is_numbered();
-    let mut left = state.atoms();
-    while let Some((first, rest)) = left.split_first() {
-        if let Some(end) = segment_at(&first.atom, t) {
-            return Some((first.number, end));
-        }
-        left = rest;
-    }
-    None
-}
-
-/// The end of a segment from the term.
-fn segment_at(atom: &Atom, t: Term) -> Option<Term>
-    ensures { result ≡ segment_at t atom.now }
-{
-    match atom {
-        Atom::Ls(root, end) if root.is(t) => Some(*end),
-        Atom::Points(..) | Atom::Ls(..) | Atom::Tree(_) => None,
-    }
-}
-
-/// The number of the lowest tree with that root.
-fn lowest_tree(state: &State, t: Term) -> Option<u32>
-    ensures { result ≡ option_map (λ f. f.0) (lowest (tree_at t) state.now.atoms) }
-{
-    state.is_numbered();
-    let mut left = state.atoms();
-    while let Some((first, rest)) = left.split_first() {
-        if is_tree_at(&first.atom, t) {
-            return Some(first.number);
-        }
-        left = rest;
-    }
-    None
-}
-
-/// Whether it is a tree with that root.
-fn is_tree_at(atom: &Atom, t: Term) -> bool
-    ensures { result ≡ is_some (tree_at t atom.now) }
-{
-    match atom {
-        Atom::Tree(root) => root.is(t),
-        Atom::Points(..) | Atom::Ls(..) => false,
-    }
-}
-
-/// The number of the lowest atom that is that segment or tree.
-pub(crate) fn lowest_shape(state: &State, wanted: &Atom) -> Option<u32>
-    requires { IsSettled state.now }
-    ensures { result ≡ option_map (λ f. f.0)
-        (lowest (which (λ x. is_same_shape x wanted.now)) state.now.atoms) }
-{
-    match sole_cell(state, wanted.root()) {
-        Some(_) => None,
-        None => first_shape(state, wanted),
-    }
-}
-
-/// The same by a look at the parts in order.
-fn first_shape(state: &State, wanted: &Atom) -> Option<u32>
-    ensures { result ≡ option_map (λ f. f.0)
-        (lowest (which (λ x. is_same_shape x wanted.now)) state.now.atoms) }
-{
-    state.is_numbered();
-    let mut left = state.atoms();
-    while let Some((first, rest)) = left.split_first() {
-        if is_same_shape(&first.atom, wanted) {
-            return Some(first.number);
-        }
-        left = rest;
-    }
-    None
-}
 
 /// Where a goal would be stuck: the ends of the lowest atom or taken atom of which it isn't known
 /// whether it is empty are split, and without one the goal is stuck for that reason.
@@ -213,19 +96,14 @@ fn undecided_ends(state: &State, atom: &Atom) -> Option<(Term, Term)>
 /// of the heap that may begin with one is opened, and without one the goal would be stuck for that
 /// reason.
 pub(crate) fn at_cell(state: &State, t: Term, kind: Stuck) -> Result<u32, Choice>
-    requires { IsSettled state.now }
     ensures { MatchResult result
         (λ a. Some a ≡ option_map (λ f. f.0) (lowest (λ x. fields_at x t) state.now.atoms))
         (λ c. (None ≡ option_map (λ f. f.0) (lowest (λ x. fields_at x t) state.now.atoms))
         × (c ≡ or_else (opened state.now t) (split_or state.now kind))) }
 {
-    match held_at(state, t) {
-        Some(Holder::Cell(a)) => Ok(a),
-        Some(Holder::Opened(a)) => Err(Choice::Takes(Tag::Unroll(a))),
-        None => match first_cell(state, t) {
-            Some(a) => Ok(a),
-            None => Err(without_cell(state, t, kind)),
-        },
+    match lowest_cell(state, t) {
+        Some(a) => Ok(a),
+        None => Err(without_cell(state, t, kind)),
     }
 }
 

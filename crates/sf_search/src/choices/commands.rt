@@ -2,7 +2,6 @@
 
 ghost use Rattle.std.specs.Prelude.{◌≡◌};
 ghost use Rattle.sf_core.specs.Program.View.{command_of};
-ghost use Rattle.sf_search.specs.Checked.Settled.{IsSettled};
 ghost use Rattle.sf_search.specs.declared.choices.choice.Choice.TheVariants.{Takes as takes};
 ghost use Rattle.sf_sym.specs.declared.stuck.Stuck.TheVariants.{NoCell as no_cell};
 ghost use Rattle.sf_search.specs.Checked.Chooses.{at_cell, at_command};
@@ -17,7 +16,6 @@ use sf_sym::{State, Stuck, Tag, Term};
 
 /// What the strategy does at a command.
 pub(crate) fn at_command(state: &State, command: &Command) -> Choice
-    requires { IsSettled state.now }
     ensures { result ≡ at_command state.now (command_of command.now) }
 {
     match command {
@@ -37,7 +35,6 @@ pub(crate) fn at_command(state: &State, command: &Command) -> Choice
 /// A field of the lowest cell at the term is read.
 #[tactic(auto, using(crate::proofs::Lowest::cell_there, crate::proofs::Lowest::no_cell_there))]
 fn at_look_up(state: &State, t: Term) -> Choice
-    requires { IsSettled state.now }
     ensures { result ≡ at_cell state.now t (λ a. takes (Look a)) no_cell }
 {
     match at_cell(state, t, Stuck::NoCell) {
@@ -49,7 +46,6 @@ fn at_look_up(state: &State, t: Term) -> Choice
 /// A field of the lowest cell at the term is written.
 #[tactic(auto, using(crate::proofs::Lowest::cell_there, crate::proofs::Lowest::no_cell_there))]
 fn at_mutation(state: &State, t: Term) -> Choice
-    requires { IsSettled state.now }
     ensures { result ≡ at_cell state.now t (λ a. takes (Mutate a)) no_cell }
 {
     match at_cell(state, t, Stuck::NoCell) {
@@ -61,7 +57,6 @@ fn at_mutation(state: &State, t: Term) -> Choice
 /// The lowest cell at the term goes.
 #[tactic(auto, using(crate::proofs::Lowest::cell_there, crate::proofs::Lowest::no_cell_there))]
 fn at_disposal(state: &State, t: Term) -> Choice
-    requires { IsSettled state.now }
     ensures { result ≡ at_cell state.now t (λ a. takes (Dispose a)) no_cell }
 {
     match at_cell(state, t, Stuck::NoCell) {

@@ -4,13 +4,13 @@ ghost use Rattle.std.specs.Prelude.{◌≡◌, IfOk};
 ghost use Rattle.std.specs.Option.{option_map};
 ghost use Rattle.sf_consume.specs.Subtract.{wanted_shape};
 ghost use Rattle.sf_core.specs.Program.View.{conjunct_of};
-ghost use Rattle.sf_search.specs.Checked.Settled.{IsSettled};
 ghost use Rattle.sf_search.specs.Checked.Chooses.{at_equality, at_inequality, at_list, at_points, at_tree, at_want, at_wanted, at_wanted_cell, begins_with, exact_atom, joins};
 ghost use Rattle.sf_sym.specs.Pending.{pending_of};
 
-use crate::choices::atoms::{at_cell, lowest_cell, lowest_segment, lowest_shape, split_or};
+use crate::choices::atoms::{at_cell, split_or};
 use crate::choices::branches::at_choice;
 use crate::choices::choice::Choice;
+use crate::choices::seeking::{lowest_cell, lowest_segment, lowest_shape};
 use sf_consume::{binds, both, fits_cell, is_empty, is_same, wanted_shape};
 use sf_core::{Conjunct, Operand, Test};
 use sf_sym::{Pending, State, Stuck, Tag, Term, term_of};
@@ -18,7 +18,6 @@ use std::alloc::{AllocError, Global};
 
 /// What the strategy does at conjuncts to show. An `Err` means out of memory.
 pub(crate) fn at_want(alloc: Global, state: &State, want: &Pending) -> Result<Choice, AllocError>
-    requires { IsSettled state.now }
     ensures { IfOk result (λ c. c ≡ at_want state.now (pending_of want.now)) }
 {
     match want.first() {
@@ -34,7 +33,6 @@ fn at_wanted(
     bindings: &[Option<Term>],
     c: &Conjunct<Term>,
 ) -> Result<Choice, AllocError>
-    requires { IsSettled state.now }
     ensures { IfOk result
         (λ r. r ≡ at_wanted state.now bindings.now (conjunct_of c.now)) }
 {
@@ -85,7 +83,6 @@ fn at_points(
     c: &Conjunct<Term>,
     root: Option<Term>,
 ) -> Result<Choice, AllocError>
-    requires { IsSettled state.now }
     ensures { IfOk result (λ r. r
         ≡ at_points state.now bindings.now (conjunct_of c.now) root) }
 {
@@ -104,7 +101,6 @@ fn at_wanted_cell(
     c: &Conjunct<Term>,
     t: Term,
 ) -> Result<Choice, AllocError>
-    requires { IsSettled state.now }
     ensures { IfOk result (λ r. r
         ≡ at_wanted_cell state.now bindings.now (conjunct_of c.now) t) }
 {
@@ -126,7 +122,6 @@ fn at_list(
     c: &Conjunct<Term>,
     ends: Option<(Term, Term)>,
 ) -> Choice
-    requires { IsSettled state.now }
     ensures { result ≡ at_list state.now bindings.now (conjunct_of c.now) ends }
 {
     let Some((t, u)) = ends else {
@@ -157,7 +152,6 @@ fn at_tree(
     c: &Conjunct<Term>,
     root: Option<Term>,
 ) -> Choice
-    requires { IsSettled state.now }
     ensures { result ≡ at_tree state.now bindings.now (conjunct_of c.now) root }
 {
     let Some(t) = root else {
@@ -180,7 +174,6 @@ fn at_tree(
 
 /// The lowest atom that is the wanted segment or tree.
 fn exact(state: &State, bindings: &[Option<Term>], c: &Conjunct<Term>) -> Option<Choice>
-    requires { IsSettled state.now }
     ensures { result
         ≡ exact_atom state.now (wanted_shape bindings.now (conjunct_of c.now)) }
 {

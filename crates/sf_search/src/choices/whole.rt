@@ -1,15 +1,13 @@
 //! The strategy at a goal.
 
-ghost use Rattle.std.specs.Prelude.{◌≡◌, ◌++◌, IfNone, IfOk, List, false};
+ghost use Rattle.std.specs.Prelude.{◌≡◌, ◌++◌, IfOk, List, false};
 ghost use Rattle.std.specs.Option.{option_map};
 ghost use Rattle.sf_search.specs.Checked.Choosing.{at_first, at_state};
-ghost use Rattle.sf_search.specs.Checked.Settled.{IsSettled};
 ghost use Rattle.sf_search.specs.declared.choices.choice.Choice.{Choice as AnyChoice};
 ghost use Rattle.sf_search.specs.Strategy.{or_else, strategy};
 ghost use Rattle.sf_search.specs.Checked.Chooses.{at_end, at_items, chooses};
 ghost use Rattle.sf_sym.specs.Goal.{Item as Thing, goal_of, items_of, todo_of};
 ghost use Rattle.sf_sym.specs.Checked.Items.{is_nothing};
-ghost use Rattle.sf_sym.specs.Tests.{is_absurd};
 
 use crate::choices::atoms::split_or;
 use crate::choices::choice::Choice;
@@ -26,49 +24,28 @@ use std::alloc::{AllocError, Global};
 pub fn choose(alloc: Global, goal: &Goal) -> Result<Choice, AllocError>
     ensures { IfOk result (λ c. c ≡ strategy (goal_of goal.now)) }
 {
-    choose_unknown(alloc, goal)
+    choose_nested(alloc, goal)
 }
 
 /// The same as the code says it: what is in front decides, after what is known.
-pub(crate) fn choose_unknown(alloc: Global, goal: &Goal) -> Result<Choice, AllocError>
+fn choose_nested(alloc: Global, goal: &Goal) -> Result<Choice, AllocError>
     ensures { IfOk result (λ c. c ≡ chooses (goal_of goal.now)) }
 {
-    if goal.state.is_absurd() {
-        return Ok(Choice::Takes(Tag::Absurd));
+    match at_state(&goal.state) {
+        Some(choice) => Ok(choice),
+        None => at_items(alloc, &goal.state, goal.todo.as_slice()),
     }
-    choose_possible(alloc, goal)
 }
 
-/// The same at a goal whose state isn't absurd.
-pub(crate) fn choose_possible(alloc: Global, goal: &Goal) -> Result<Choice, AllocError>
-    requires { is_absurd goal.now.state ≡ false }
-    ensures { IfOk result (λ c. c ≡ chooses (goal_of goal.now)) }
-{
-    if let Some(choice) = at_state(&goal.state) {
-        return Ok(choice);
-    }
-    at_items(alloc, &goal.state, goal.todo.as_slice())
-}
-
-/// The same at a goal of which it is known that by its state alone nothing is done: no part of the
-/// heap is compared with another.
-#[tactic(auto, using(crate::proofs::Settled::settled_chooses))]
-pub(crate) fn choose_in_front(alloc: Global, goal: &Goal) -> Result<Choice, AllocError>
-    requires { IsSettled goal.now.state }
-    ensures { IfOk result (λ c. c ≡ chooses (goal_of goal.now)) }
-{
-    at_items(alloc, &goal.state, goal.todo.as_slice())
-}
-
-/// What it does by what is known alone, where the state isn't absurd.
+/// What it does by what is known alone.
 #[tactic(auto, using(crate::proofs::Lowest::nothing_is_lowest, crate::proofs::Lowest::forced_is_lowest))]
 fn at_state(state: &State) -> Option<Choice>
-    requires { is_absurd state.now ≡ false }
-    ensures choice { (c : AnyChoice)
-        → or_else (result) c ≡ at_state state.now c }
-    ensures settled { IfNone result (IsSettled state.now) }
+    ensures { (c : AnyChoice) → or_else (result) c ≡ at_state state.now c }
 {
     state.is_numbered();
+    if state.is_absurd() {
+        return Some(Choice::Takes(Tag::Absurd));
+    }
     if let Some(a) = state.droppable() {
         return Some(Choice::Takes(Tag::Drop(a)));
     }
@@ -78,7 +55,6 @@ fn at_state(state: &State) -> Option<Choice>
 
 /// What it does by the item in front. An `Err` means out of memory.
 fn at_items(alloc: Global, state: &State, todo: &[Item]) -> Result<Choice, AllocError>
-    requires { IsSettled state.now }
     ensures { IfOk result (λ c. c ≡ at_items state.now (todo_of todo.now)) }
 {
     match peek_item(todo) {
@@ -89,7 +65,6 @@ fn at_items(alloc: Global, state: &State, todo: &[Item]) -> Result<Choice, Alloc
 
 /// What it does at an item that is something to do. An `Err` means out of memory.
 fn at_item(alloc: Global, state: &State, item: &Item) -> Result<Choice, AllocError>
-    requires { IsSettled state.now }
     ensures { IfOk result (λ c. (rest : List Thing) → is_nothing item.now ≡ false
         → c ≡ at_items state.now (items_of item.now ++ rest)) }
 {
@@ -108,7 +83,6 @@ fn at_item(alloc: Global, state: &State, item: &Item) -> Result<Choice, AllocErr
 
 /// What it does at commands: the first one decides.
 fn at_run(state: &State, commands: &[Command]) -> Choice
-    requires { IsSettled state.now }
     ensures { result ≡ at_first state.now commands.now }
 {
     match commands.split_first() {

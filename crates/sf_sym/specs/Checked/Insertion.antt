@@ -1,6 +1,6 @@
 -- How the code sets and removes in lists that are in order: at the first place that fits.
 -- An ordinary insertion into a list in order; no source.
-use Rattle.std.specs.Prelude.{ℕ, ◌==◌, cond, nat_lt, List, [], ◌∷◌}
+use Rattle.std.specs.Prelude.{◌==◌, cond, nat_lt, List, [], ◌∷◌}
 use Rattle.sf_base.specs.declared.ids.FieldId.{FieldId}
 use Rattle.sf_base.specs.declared.ids.Var.{Var}
 use Rattle.sf_base.specs.Variables.{same_var}

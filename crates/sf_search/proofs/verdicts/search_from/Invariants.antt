@@ -4,7 +4,6 @@ use Rattle.sf_base.specs.declared.limits.TheConstants.{PROCEDURE_TAGS}
 use Rattle.sf_rules.specs.Checked.Children.{stack_of}
 use Rattle.sf_search.proofs.Leading.{Leads}
 use Rattle.sf_search.proofs.Reached.{IsReached}
-use Rattle.sf_search.specs.Checked.Knowing.{IsKnownOfFirst}
 use Rattle.sf_sym.specs.Goal.{goal_of}
 use Rattle.sf_search.proofs.verdicts.search_from.Given as goal
 
@@ -13,7 +12,6 @@ invariant-loop-goal g l = record {
   leads : Leads g.d (goal_of l.fn.first ∷ []) (stack_of l.stack.items) l.tags.items;
   count : length l.tags.items ≤ PROCEDURE_TAGS;
   reached : AllByRecursion (IsReached g.d (goal_of l.fn.first) (length l.tags.items)) (stack_of l.stack.items);
-  known : IsKnownOfFirst l.known (stack_of l.stack.items);
 }
 
 abbrev pub decreases-loop-goal : goal.decreases-loop-goal
