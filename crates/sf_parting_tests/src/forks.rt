@@ -1,14 +1,15 @@
-//! Two children of a fork at one region: what they meet with, and their numbers and stamps, which are
-//! worked out by hand.
+//! Tasks that fork: which units, numbers and stamps they have, and what they meet with at a region.
+//! All of them are worked out by hand.
 
 use crate::parts::field;
-use crate::programs::FREE_CELLS;
-use sf_base::{ResId, Turn, Value};
+use crate::programs::{FELLED, FREE_CELLS, SMALL_TREE};
+use sf_base::{ResId, TaskPath, Turn, Value};
 use sf_files::fitted;
 use sf_frame::Spot;
 use sf_part::{Local, Stamped};
 use sf_turns::ends::{End, closed};
 use sf_turns::forks::{first_other_of, fork_at, join_at};
+use sf_turns::orders::run_in_order;
 use sf_turns::turns::{Comes, sit};
 use std::test::Fail;
 
@@ -103,5 +104,83 @@ fn a_child_enters_with_what_the_other_left(rt: HostRuntime) -> Result<(), Fail> 
     assert_eq!(rt; store.find(Spot::Shared(MM, 0)), Some(Value::Loc(1)));
     assert_eq!(rt; left.len(), 2);
     assert_eq!(rt; field(&left, 1, 1), Some(Value::Loc(3)));
+    Ok(())
+}
+
+const LEFT_LEFT: &[Turn] = &[Turn::Left, Turn::Left];
+
+const LEFT_RIGHT: &[Turn] = &[Turn::Left, Turn::Right];
+
+const RIGHT_LEFT: &[Turn] = &[Turn::Right, Turn::Left];
+
+const RIGHT_RIGHT: &[Turn] = &[Turn::Right, Turn::Right];
+
+/// The tasks of the run over a tree of three cells, with as many units as they were given of 28.
+const GIVENS_OF_TREE: [(&[Turn], u64); 7] = [
+    (ENTRY, 28),
+    (LEFT, 12),
+    (LEFT_LEFT, 4),
+    (LEFT_RIGHT, 4),
+    (RIGHT, 12),
+    (RIGHT_LEFT, 4),
+    (RIGHT_RIGHT, 4),
+];
+
+/// Its log, with units from 4 on: of each task the test, two look-ups and the fork, its children's,
+/// the join, the disposal and the return; a task at nil has a test and a return alone.
+const ROWS_OF_TREE: [Row<'static>; 28] = [
+    (1, ENTRY, 4),
+    (2, ENTRY, 5),
+    (3, ENTRY, 6),
+    (4, ENTRY, 7),
+    (5, LEFT, 8),
+    (6, LEFT, 9),
+    (7, LEFT, 10),
+    (8, LEFT, 11),
+    (9, LEFT_LEFT, 12),
+    (10, LEFT_LEFT, 13),
+    (9, LEFT_RIGHT, 16),
+    (10, LEFT_RIGHT, 17),
+    (11, LEFT, 14),
+    (12, LEFT, 15),
+    (13, LEFT, 18),
+    (5, RIGHT, 20),
+    (6, RIGHT, 21),
+    (7, RIGHT, 22),
+    (8, RIGHT, 23),
+    (9, RIGHT_LEFT, 24),
+    (10, RIGHT_LEFT, 25),
+    (9, RIGHT_RIGHT, 28),
+    (10, RIGHT_RIGHT, 29),
+    (11, RIGHT, 26),
+    (12, RIGHT, 27),
+    (13, RIGHT, 30),
+    (14, ENTRY, 19),
+    (15, ENTRY, 31),
+];
+
+/// Whether the tasks are these, with as many units as is said.
+fn are_given(givens: &[(TaskPath, u64)], rows: &[(&[Turn], u64)]) -> bool {
+    givens.len() == rows.len()
+        && givens.iter().zip(rows).all(|((task, units), (turns, count))| task.turns() == *turns
+            && units == count)
+}
+
+/// All 28 units are used: those that a child leaves are the first that its parent takes.
+#[test]
+fn the_units_and_stamps_of_a_tree_are_those_worked_out(rt: HostRuntime) -> Result<(), Fail> {
+    let alloc = rt.alloc();
+    let p = fitted(alloc, FELLED).expect(&rt, "a program");
+    let at = sit(alloc, &p, "disp_tree", SMALL_TREE, 28, true)?.expect(&rt, "a start");
+    let course = run_in_order(alloc, at, 2, &[0, 0, 0])?.expect(&rt, "an end");
+    assert!(rt; are_given(course.givens.as_slice(), &GIVENS_OF_TREE));
+    assert!(rt; course.dues.as_slice() == [2, 1, 1].as_slice());
+    let end = &course.end;
+    assert!(rt; end.vars.own.as_slice() == [Value::Loc(1)].as_slice());
+    assert_eq!(rt; end.heap.len(), 0);
+    assert_eq!(rt;
+        first_other_entry(end.log.entries.as_slice(), &ROWS_OF_TREE),
+        None
+    );
     Ok(())
 }

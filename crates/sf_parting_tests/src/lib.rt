@@ -5,11 +5,17 @@
 //! - `programs`: the texts of programs and of states.
 //! - `parts`: parts of one task, from their beginning to their end.
 //! - `regions`: what a task enters with, leaves and gets again, and what it misses.
-//! - `forks`: two children of a fork at one region: what they meet with, and their numbers and stamps.
+//! - `forks`: tasks that fork: which units, numbers and stamps they have, and what they meet with.
+//! - `orders`: joins in every order.
+//! - `meetings`: two threads at one table.
 #![tactic(auto)]
 
 #[cfg(test)]
 mod forks;
+#[cfg(test)]
+mod meetings;
+#[cfg(test)]
+mod orders;
 #[cfg(test)]
 mod parts;
 #[cfg(test)]

@@ -50,3 +50,18 @@ pub(crate) const BARE: &[u8] = b"
 
 /// A tree of three cells.
 pub(crate) const SMALL_TREE: &[u8] = b"p = @1\n@1 l=@2 r=@3\n@2\n@3";
+
+/// One of seven, with three levels.
+pub(crate) const TREE_OF_SEVEN: &[u8] =
+    b"p = @1\n@1 l=@2 r=@3\n@2 l=@4 r=@5\n@3 l=@6 r=@7\n@4\n@5\n@6\n@7";
+
+/// For each cell of a list, which is given up, a cell is exchanged for the one that a resource has; two
+/// tasks do so at once.
+pub(crate) const EXCHANGED: &[u8] = b"
+    resource mm (f) [f|->]
+    swap(x;) [x|->] { local t; with mm when (true) { t = f; f = x; } x = t; } [x|->]
+    each(x; y) [x|-> * list(y)] {
+      local t;
+      while (y != nil) [x|-> * list(y)] { t = y->tl; dispose(y); y = t; swap(x;); }
+    } [x|->]
+    both(x, z; y, w) [x|-> * z|-> * list(y) * list(w)] { each(x; y) || each(z; w); } [x|-> * z|->]";

@@ -1,3 +1,4 @@
+pub mod Grown
 pub mod Parted
 pub mod Seats
 pub mod Units

@@ -16,6 +16,7 @@ use sf_part::{Local, PartFault};
 use sf_precise::Arranged;
 use sf_region::{Regions, Task};
 use std::alloc::{AllocError, Global};
+use std::thread::yield_now;
 
 /// A procedure that runs, at a table of the resources of its program.
 #[derive(Drop)]
@@ -204,4 +205,35 @@ pub fn first_other<'p>(
         task,
     };
     Ok((at, other))
+}
+
+/// After a miss, lets other threads go on.
+fn let_others(comes: Comes) {
+    if let Comes::Missed(_, _) = comes {
+        yield_now();
+    }
+}
+
+/// Takes turns, at most so many, until there is no further step of the task alone at the table. After
+/// a miss others may go on. An `Err` says that memory ran out.
+pub fn to_halt<'p>(
+    task: Task<'p>,
+    p: &'p Arranged,
+    regions: &Regions<'p>,
+    most: u64,
+) -> Result<Task<'p>, AllocError>
+    requires { RunsAt p.now regions.now task }
+    ensures { IfOk result (HasGone p.now regions.now task.entry) }
+{
+    going_composes();
+    let mut task = task;
+    for _ in 0..most {
+        let (next, comes) = turn(task, p, regions)?;
+        task = next;
+        if let Comes::Other(_) = comes {
+            return Ok(task);
+        }
+        let_others(comes);
+    }
+    Ok(task)
 }
