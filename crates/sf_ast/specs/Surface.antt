@@ -24,6 +24,7 @@ mutual
     points : SurfaceOperand → List SurfaceField → Conjunct
     ls : Place → (long : Bool) → (from to : SurfaceOperand) → Conjunct
     list : Place → SurfaceOperand → Conjunct
+    dll : Place → (from before last to : SurfaceOperand) → Conjunct
     tree : Place → SurfaceOperand → Conjunct
 
   -- one conjunct, or one and more after a `*`

@@ -43,6 +43,7 @@ conjunct_step (o.Differ x y) = s.differ x y
 conjunct_step (o.Points x fs) = s.points x fs.items
 conjunct_step (o.Ls p b x y) = s.ls p b x y
 conjunct_step (o.List p x) = s.list p x
+conjunct_step (o.Dll p x b l y) = s.dll p x b l y
 conjunct_step (o.Tree p x) = s.tree p x
 
 -- an assertion, its conjuncts being read already

@@ -31,6 +31,8 @@ pub enum SurfaceConjunct {
     Ls(Place, bool, SurfaceOperand, SurfaceOperand),
     /// `list(E)`
     List(Place, SurfaceOperand),
+    /// `dll(E, P, L, F)`
+    Dll(Place, SurfaceOperand, SurfaceOperand, SurfaceOperand, SurfaceOperand),
     /// `tree(E)`
     Tree(Place, SurfaceOperand),
 }

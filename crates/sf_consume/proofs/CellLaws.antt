@@ -1,4 +1,5 @@
--- Cell, head, node: what is wanted is a cell, or a segment or a tree that begins with one.
+-- Cell, head, node: what is wanted is a cell, or a segment or a tree that begins with one; a doubly linked segment that
+-- does is in SegmentLaws.
 -- Names: `ROW_keeps_wants` is the law of that row, `ROW-one` of its conjunct.
 use Rattle.std.specs.Option.{option_and_then, option_map}
 use Rattle.std.proofs.Common.{◌≡◌, ◌≢◌, ℕ, ◌≤◌, Bool, true, false, cond, List, Option, Some, None, refl, sym, ◌∙◌, subst, subst₂, inl, inr, arith}
@@ -19,8 +20,8 @@ use Rattle.sf_consume.proofs.Handing.{by_first, by_list, state-below, state-hand
 use Rattle.sf_consume.proofs.WantedFirst.{cell-is, tree-is}
 use Rattle.sf_consume.specs.declared.wanted.WantedList.{WantedList}
 use Rattle.sf_consume.specs.declared.wanted.WantedTree.{WantedTree}
-use Rattle.sf_consume.specs.Checked.Laws.{alone, Subtracts, CellKeepsWants, HeadKeepsWants, NodeKeepsWants}
-use Rattle.sf_consume.specs.Subtract.{Fit, Want, cell_step, first_fit, fit_fields, fitting, handed_cell, head_there, link, list_from, node_step, node_there, removed, tree_from, wanted_cell, wanted_tree}
+use Rattle.sf_consume.specs.Checked.Laws.{alone, Subtracts, KeepsWants, CellKeepsWants, NodeKeepsWants}
+use Rattle.sf_consume.specs.Subtract.{Fit, Want, cell_step, first_fit, fit_fields, fitting, handed_cell, head_there, link, list_from, list_head_step, node_step, node_there, removed, tree_from, wanted_cell, wanted_tree}
 use Rattle.sf_consume.specs.Wants.{IsFormed, Wants}
 use Rattle.sf_sym.specs.Checked.Lemmas.Bindings.{operand-below, operand-is}
 use Rattle.sf_sym.specs.Formed.{AllFormed}
@@ -39,19 +40,19 @@ use Rattle.sf_sym.specs.Tests.{differs}
 
 -- A cell that is handed over with more of its fields known
 -- values of the symbols with which it has them, and what it takes off what is wanted
-record Taken (w : ℕ → Value) (s : State) (here : Cell) (part : Heap) (fields : List (FieldId × Term))
+pub record Taken (w : ℕ → Value) (s : State) (here : Cell) (part : Heap) (fields : List (FieldId × Term))
     (goal after : Want) : Type 0 where
-  values : ℕ → Value
-  same : SameBelow s.next_sym values w
-  has : HasFields (term_value values) fields here
-  wants : (some : ℕ → Value) (more whole : Heap) → Splits whole part more → Wants values some after more
+  pub values : ℕ → Value
+  pub same : SameBelow s.next_sym values w
+  pub has : HasFields (term_value values) fields here
+  pub wants : (some : ℕ → Value) (more whole : Heap) → Splits whole part more → Wants values some after more
       → Wants values some goal whole
 
 module _ (a : ℕ) (s : State) (bindings : List (Option Term)) (c : Conjunct Term) (cs : Conjuncts Term) (t : Term)
     (fields : List (FieldId × Term)) (formed : IsFormed (wanting_first s bindings c cs))
     (found : cell_at s.atoms a t ≡ Some fields) where
   -- its terms are below the next symbol
-  cell-below : IsBelow s.next_sym t × AllPaired (IsBelow s.next_sym) fields
+  pub cell-below : IsBelow s.next_sym t × AllPaired (IsBelow s.next_sym) fields
   cell-below = at-all (AllInAtom (IsBelow s.next_sym)) s.atoms a (Points t fields) (at-cell s.atoms a t fields found)
       formed.state.atoms
 
@@ -59,7 +60,7 @@ module _ (a : ℕ) (s : State) (bindings : List (Option Term)) (c : Conjunct Ter
   first-below : FitBelow (first_fit s fields bindings)
   first-below = record { fields = cell-below.1; bindings = formed.terms.bindings }
 
-  cell-handed : (f : Fit) (now : List (Option Term)) (left : Conjuncts Term) → s.next_sym ≤ f.next_sym
+  pub cell-handed : (f : Fit) (now : List (Option Term)) (left : Conjuncts Term) → s.next_sym ≤ f.next_sym
       → AllPaired (IsBelow f.next_sym) f.fields
       → IsFormed (removed (handed_cell s t a f) now left)
       →
@@ -233,9 +234,8 @@ head-one a s bindings k cs t u fields formed from to differ found =
       };
     })
 
-pub head_keeps_wants : HeadKeepsWants
-unfolding HeadKeepsWants
-head_keeps_wants a = by_list (head_there a) (λ s bindings k cs after ends formed from to there.
+pub list_head_keeps_wants : (a : ℕ) → KeepsWants (list_head_step a)
+list_head_keeps_wants a = by_list (head_there a) (λ s bindings k cs after ends formed from to there.
     go s bindings k cs after ends.0 ends.1 formed from to (differs s ends.0 ends.1) refl (cell_at s.atoms a ends.0) refl
     there)
   where

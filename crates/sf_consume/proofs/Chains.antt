@@ -16,9 +16,10 @@ use Rattle.sf_core.specs.declared.assertion.Operand.TheVariants.{Known, Exists}
 use Rattle.sf_core.specs.declared.assertion.Scope.{Scope}
 use Rattle.sf_core.specs.declared.command.Expr.{Expr}
 use Rattle.sf_core.specs.Program.Syntax.{Conjuncts, level}
-use Rattle.sf_consume.proofs.CellLaws.{cell_keeps_wants, head_keeps_wants, node_keeps_wants}
-use Rattle.sf_consume.proofs.PartLaws.{exact_keeps_wants, join_keeps_wants}
+use Rattle.sf_consume.proofs.CellLaws.{cell_keeps_wants, node_keeps_wants}
+use Rattle.sf_consume.proofs.PartLaws.{exact_keeps_wants}
 use Rattle.sf_consume.proofs.PureLaws.{apart_keeps_wants, bind_keeps_wants, empty_keeps_wants, same_keeps_wants}
+use Rattle.sf_consume.proofs.SegmentLaws.{head_keeps_wants, join_keeps_wants}
 use Rattle.sf_consume.specs.Checked.Laws.{HandsOver, Subtracts, AssertionIsShown, AssertionIsWanted, BindKeepsWants, SameKeepsWants, ApartKeepsWants, CellKeepsWants, EmptyKeepsWants, ExactKeepsWants, HeadKeepsWants, JoinKeepsWants, NodeKeepsWants, NothingIsWanted, SubtractionKeepsWants, SubtractionsChain}
 use Rattle.sf_consume.specs.Subtract.{Want}
 use Rattle.sf_sym.specs.declared.tag.Tag.TheVariants as tags
@@ -135,6 +136,7 @@ subtraction_keeps_wants (tags.Drop a) want after formed row = absurd (cc)
 subtraction_keeps_wants (tags.Force a) want after formed row = absurd (cc)
 subtraction_keeps_wants (tags.Split t u) want after formed row = absurd (cc)
 subtraction_keeps_wants (tags.Unroll a) want after formed row = absurd (cc)
+subtraction_keeps_wants (tags.Back a) want after formed row = absurd (cc)
 subtraction_keeps_wants tags.Assign want after formed row = absurd (cc)
 subtraction_keeps_wants (tags.Look a) want after formed row = absurd (cc)
 subtraction_keeps_wants (tags.Mutate a) want after formed row = absurd (cc)

@@ -106,31 +106,35 @@ pub record FieldFits (f after : Fit) (field : FieldId) (x : Operand Term) : Type
   pub values : (v : ℕ → Value) (here : Cell) → HasFields (term_value v) f.fields here
       → Valued v here f after field term
 
--- a wanted field that has a term
-known-fits : (f after : Fit) (field : FieldId) (x : Operand Term) (u : Term) → FitBelow f
-    → term_of f.bindings x ≡ Some u → fit_known f (field_term f.fields field) u ≡ Some after
-    → FieldFits f after field x
-known-fits f after field x u below is e = go (field_term f.fields field) refl e
+-- a wanted field that has a term: the cell has it there, and nothing changes
+pub known-is : (f after : Fit) (field : FieldId) (u : Term) → fit_known f (field_term f.fields field) u ≡ Some after
+    → (f ≡ after) × (field_term f.fields field ≡ Some u)
+known-is f after field u e = go (field_term f.fields field) refl e
   where
     go : (o : Option Term) → field_term f.fields field ≡ o → fit_known f o u ≡ Some after
-        → FieldFits f after field x
+        → (f ≡ after) × (field_term f.fields field ≡ Some u)
     go None i e = absurd (cc)
     go (Some t) i e =
         let (so, same) = cond_some (same_term t u) f after e in
-        let one : t ≡ u = same_term_is t u so in
-        let at : field_term f.fields field ≡ Some u = i ∙ ap Some one in
-        subst (λ z. FieldFits f z field x) same (record {
-          grows = record { symbols = omega arith; length = refl; keeps = λ n t e. e; below = below };
-          term = u;
-          is = is;
-          below = field-all (IsBelow f.next_sym) f.fields field u at below.fields;
-          values = λ v here has. record {
-            values = v;
-            same = λ m i. refl;
-            has = has;
-            value = field-value (term_value v) f.fields field u here at has;
-          };
-        })
+        (same, i ∙ ap Some (same_term_is t u so))
+
+known-fits : (f after : Fit) (field : FieldId) (x : Operand Term) (u : Term) → FitBelow f
+    → term_of f.bindings x ≡ Some u → fit_known f (field_term f.fields field) u ≡ Some after
+    → FieldFits f after field x
+known-fits f after field x u below is e =
+    let (same, at) = known-is f after field u e in
+    subst (λ z. FieldFits f z field x) same (record {
+      grows = record { symbols = omega arith; length = refl; keeps = λ n t e. e; below = below };
+      term = u;
+      is = is;
+      below = field-all (IsBelow f.next_sym) f.fields field u at below.fields;
+      values = λ v here has. record {
+        values = v;
+        same = λ m i. refl;
+        has = has;
+        value = field-value (term_value v) f.fields field u here at has;
+      };
+    })
 
 -- a wanted field that is an existential without a term
 new-fits : (f : Fit) (field : FieldId) (n : ℕ) → FitBelow f → n < length f.bindings

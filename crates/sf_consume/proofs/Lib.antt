@@ -5,10 +5,13 @@ pub mod Nodes
 pub mod WantedFirst
 pub mod Handing
 pub mod Bindings
+pub mod DoubleTerms
+pub mod Either
 pub mod Fitting
 pub mod PureLaws
 pub mod PartLaws
 pub mod CellLaws
+pub mod SegmentLaws
 pub mod Chains
 pub mod Branches
 pub mod Restating

@@ -1,4 +1,5 @@
--- Exact and join: what is wanted is an atom that is a segment or a tree, or begins with one.
+-- Exact and join: what is wanted is an atom that is a segment or a tree, or begins with one; a doubly linked segment that
+-- begins with one is in SegmentLaws.
 -- Names: `ROW_keeps_wants` is the law of that row.
 use Rattle.std.specs.List.{list_any}
 use Rattle.std.specs.Option.{option_map}
@@ -8,6 +9,7 @@ use Rattle.std.proofs.lemmas.Option.{cond_some, option_and_then_some, same_Some}
 use Rattle.sf_base.proofs.Bools.{and-left, and-right}
 use Rattle.sf_base.proofs.HeapSplits.{star-assoc_left, star-map_left, star-of}
 use Rattle.sf_base.proofs.MapSplits.{splits-assoc_right, splits-lacks_left, splits-union, union}
+use Rattle.sf_base.proofs.Options.{option_map-some}
 use Rattle.sf_base.specs.declared.ids.Var.{Var}
 use Rattle.sf_base.specs.declared.value.Value.{Value}
 use Rattle.sf_base.specs.declared.value.Value.TheVariants.{Loc as loc}
@@ -15,11 +17,12 @@ use Rattle.sf_base.specs.HeapStore.{Heap, ◌⋆◌}
 use Rattle.sf_core.proofs.Assertions.Segments.{loc-same, seg-append}
 use Rattle.sf_core.specs.Assertions.Sat.{SatOne, Seg, Tree as IsTree, operand}
 use Rattle.sf_core.specs.declared.fields.Links.{Links}
-use Rattle.sf_core.specs.Program.Syntax.{Conjunct, holds, points, segment, tree, choose, Conjuncts, also}
+use Rattle.sf_core.specs.Program.Syntax.{Conjunct, holds, points, segment, doubly, tree, choose, Conjuncts, also}
+use Rattle.sf_consume.proofs.DoubleTerms.{double-sat, four-are}
 use Rattle.sf_consume.proofs.Handing.{Out, both-are, by_first, by_list, formed-rest, state-below, state-handed, state-joins, state-out, wanting_first}
 use Rattle.sf_consume.specs.declared.wanted.WantedList.{WantedList}
-use Rattle.sf_consume.specs.Checked.Laws.{alone, Subtracts, ExactKeepsWants, JoinKeepsWants}
-use Rattle.sf_consume.specs.Subtract.{Want, both, exact_step, exact_there, is_same_shape, join_there, joined, list_from, removed, wanted_shape}
+use Rattle.sf_consume.specs.Checked.Laws.{alone, Subtracts, KeepsWants, ExactKeepsWants}
+use Rattle.sf_consume.specs.Subtract.{Want, both, exact_step, exact_there, four, is_same_shape, join_there, joined, list_from, list_join_step, removed, wanted_shape}
 use Rattle.sf_consume.specs.Wants.{IsFormed}
 use Rattle.sf_sym.specs.Checked.Lemmas.Bindings.{operand-below, operand-is}
 use Rattle.sf_sym.specs.Formed.{OneFormed}
@@ -33,10 +36,10 @@ use Rattle.sf_sym.specs.Below.{AllInAtom, IsBelow}
 use Rattle.sf_sym.specs.Cells.{atom_at, handed, without}
 use Rattle.sf_sym.specs.Decided.{term_of}
 use Rattle.sf_sym.specs.declared.atom.Atom.{Atom}
-use Rattle.sf_sym.specs.declared.atom.Atom.TheVariants.{Points, Ls, Tree}
+use Rattle.sf_sym.specs.declared.atom.Atom.TheVariants.{Points, Ls, Tree, Dll}
 use Rattle.sf_sym.specs.declared.atom.Numbered.{Numbered}
 use Rattle.sf_sym.specs.declared.term.Term.{Term}
-use Rattle.sf_sym.specs.Holds.{term_value, AtomHolds, IsBound, SegAlong, TreeAlong}
+use Rattle.sf_sym.specs.Holds.{term_value, AtomHolds, DsegAlong, IsBound, SegAlong, TreeAlong}
 use Rattle.sf_sym.specs.State.{State}
 use Rattle.sf_sym.specs.Tests.{allocated, allocates, is_constant, is_left_out, parts, same_term}
 
@@ -50,9 +53,24 @@ same-shape (Ls t u) (Ls v w) e =
     let two : u ≡ w = same_term_is u w (and-right (same_term t v) (same_term u w) e) in
     cc
 same-shape (Ls t u) (Tree v) e = absurd (cc)
+same-shape (Ls t u) (Dll v p l w) e = absurd (cc)
 same-shape (Tree t) (Points v fs) e = absurd (cc)
 same-shape (Tree t) (Ls v w) e = absurd (cc)
 same-shape (Tree t) (Tree v) e = ap Tree (same_term_is t v e)
+same-shape (Tree t) (Dll v p l w) e = absurd (cc)
+same-shape (Dll v p l u) (Points t fs) e = absurd (cc)
+same-shape (Dll v p l u) (Ls t w) e = absurd (cc)
+same-shape (Dll v p l u) (Tree t) e = absurd (cc)
+same-shape (Dll v p l u) (Dll t q m w) e =
+    let last_two = same_term l m && same_term u w in
+    let last_three = same_term p q && last_two in
+    let three = and-right (same_term v t) last_three e in
+    let two = and-right (same_term p q) last_two three in
+    let is_from : v ≡ t = same_term_is v t (and-left (same_term v t) last_three e) in
+    let is_before : p ≡ q = same_term_is p q (and-left (same_term p q) last_two three) in
+    let is_last : l ≡ m = same_term_is l m (and-left (same_term l m) (same_term u w) two) in
+    let is_to : u ≡ w = same_term_is u w (and-right (same_term l m) (same_term u w) two) in
+    cc
 
 -- a segment or tree that is wanted holds where it does as an atom
 shape-holds : (links : Links) (count : ℕ) (bindings : List (Option Term)) (c : Conjunct Term) (x : Atom) (heap : Heap)
@@ -72,6 +90,12 @@ shape-holds links count bindings (segment q next y z) x heap wanted e w some bou
         subst₂ (λ k l. Seg next k l heap) (sym (operand-is w some bindings z u bound two))
         (sym (operand-is w some bindings y t bound one))
         (subst (λ k. SegAlong k (term_value w t) (term_value w u) heap) wanted.0 atom)
+shape-holds links count bindings (doubly q next back y b l z) x heap wanted e w some bound h =
+    let (d, found, is) = option_map-some (λ (d : Term × Term × Term × Term). Dll d.0 d.1 d.2 d.3)
+    (four bindings y b l z) x e in
+    double-sat w some bindings q next back y b l z d heap bound (four-are bindings y b l z d found)
+    (subst₂ (λ i j. DsegAlong i j (term_value w d.0) (term_value w d.1) (term_value w d.2) (term_value w d.3) heap)
+    wanted.0 wanted.1 (subst (λ k. AtomHolds w links k heap) is h))
 shape-holds links count bindings (tree q left right y) x heap wanted e w some bound h =
     go (term_of bindings y) refl e
   where
@@ -164,7 +188,7 @@ other-elsewhere w s e free taken a x u o at other location is =
     (splits-lacks_left there.location there.here whole there.there)
 
 -- a constant is nowhere, and a term that another atom allocates is elsewhere
-end-elsewhere : (w : ℕ → Value) (s : State) (e : Var → Option Value) (free taken : Heap) (a : ℕ) (x : Atom)
+pub end-elsewhere : (w : ℕ → Value) (s : State) (e : Var → Option Value) (free taken : Heap) (a : ℕ) (x : Atom)
     (u : Term) (o : Out w s e free taken a x)
     → atom_at s.atoms a ≡ Some x → is_constant u || allocated s u (Some a) ≡ true
     → (location : ℕ) → term_value w u ≡ loc location → o.part location ≡ None
@@ -239,10 +263,10 @@ joined-is s a t u (Ls v n) m e =
       and-right (same_term v t) (is_constant u || allocated s u (Some a)) so,
     )
 joined-is s a t u (Tree v) m e = absurd (cc)
+joined-is s a t u (Dll v p l w) m e = absurd (cc)
 
-pub join_keeps_wants : JoinKeepsWants
-unfolding JoinKeepsWants
-join_keeps_wants a = by_list (join_there a) (λ s bindings k cs after ends formed from to there.
+pub list_join_keeps_wants : (a : ℕ) → KeepsWants (list_join_step a)
+list_join_keeps_wants a = by_list (join_there a) (λ s bindings k cs after ends formed from to there.
     option_and_then_some
     (λ x. option_map (λ v. removed (handed s a x) bindings (also (list_from k v ends.1) cs)) (joined s a ends.0 ends.1 x))
     (atom_at s.atoms a) after there

@@ -4,22 +4,24 @@
 use Rattle.std.specs.Prelude.{ℕ, ◌+◌, Bool, false, ◌&&◌, ◌||◌, cond, get_or, is_some, Option, Some, None, List, [], ◌∷◌, set}
 use Rattle.std.specs.Option.{option_and_then, option_map}
 use Rattle.sf_base.specs.declared.ids.FieldId.{FieldId}
+use Rattle.sf_consume.specs.declared.wanted.WantedDouble.{WantedDouble}
 use Rattle.sf_consume.specs.declared.wanted.WantedList.{WantedList}
 use Rattle.sf_consume.specs.declared.wanted.WantedTree.{WantedTree}
 use Rattle.sf_core.specs.declared.assertion.Operand.{Operand}
 use Rattle.sf_core.specs.declared.assertion.Operand.TheVariants.{Known, Exists}
 use Rattle.sf_core.specs.declared.assertion.Test.TheVariants.{Equal, Differ}
-use Rattle.sf_core.specs.Program.Syntax.{Conjunct, holds, points, segment, tree, Conjuncts, none, also}
+use Rattle.sf_core.specs.Program.Syntax.{Conjunct, holds, points, segment, doubly, tree, Conjuncts, none, also}
 use Rattle.sf_sym.specs.declared.atom.Atom.{Atom}
-use Rattle.sf_sym.specs.declared.atom.Atom.TheVariants.{Ls, Tree}
+use Rattle.sf_sym.specs.declared.atom.Atom.TheVariants.{Ls, Tree, Dll}
 use Rattle.sf_sym.specs.declared.tag.Tag.{Tag}
 use Rattle.sf_sym.specs.declared.tag.Tag.TheVariants as tags
 use Rattle.sf_sym.specs.Pending.{existentials_in}
 use Rattle.sf_sym.specs.declared.term.Term.{Term}
-use Rattle.sf_sym.specs.declared.term.Term.TheVariants.{Nil, Sym}
+use Rattle.sf_sym.specs.declared.term.Term.TheVariants.{Sym}
 use Rattle.sf_sym.specs.Cells.{after_hand_over, atom_at, cell_at, handed}
 use Rattle.sf_sym.specs.Decided.{term_of}
 use Rattle.sf_sym.specs.Fields.{field_term, put_term}
+use Rattle.sf_sym.specs.Known.{is_nothing}
 use Rattle.sf_sym.specs.State.{State}
 use Rattle.sf_sym.specs.Tests.{allocated, differs, is_constant, same_term}
 
@@ -57,6 +59,12 @@ wanted_cell _ = None
 abbrev pub wanted_list : Conjunct Term → Option WantedList
 wanted_list (segment q next x y) = Some (record { place = q; next = next; from = x; to = y })
 wanted_list _ = None
+
+-- a doubly linked segment
+abbrev pub wanted_double : Conjunct Term → Option WantedDouble
+wanted_double (doubly q next back x b l y) =
+    Some (record { place = q; next = next; back = back; from = x; before = b; last = l; to = y })
+wanted_double _ = None
 
 -- a tree
 abbrev pub wanted_tree : Conjunct Term → Option WantedTree
@@ -177,27 +185,31 @@ cell_step a s bindings c cs =
     (option_and_then (fitting a s bindings) (wanted_cell c))
 
 -- Lists and trees
--- the two terms between which a wanted part of the heap lies: a tree ends at nil
-abbrev pub wanted_ends : List (Option Term) → Conjunct Term → Option (Term × Term)
-wanted_ends bindings (segment q next x y) = both bindings x y
-wanted_ends bindings (tree q left right x) = both bindings x (Known Nil)
-wanted_ends bindings _ = None
-
--- empty: a segment from a term to itself, or the tree of nil
-abbrev pub empty_step : Step
-empty_step s bindings c cs = option_and_then (removed_if same_term s bindings cs) (wanted_ends bindings c)
-
 -- two atoms are one segment, or one tree
 abbrev pub is_same_shape : Atom → Atom → Bool
 is_same_shape (Ls t u) (Ls v w) = same_term t v && same_term u w
 is_same_shape (Tree t) (Tree v) = same_term t v
+is_same_shape (Dll v p l u) (Dll t q m w) =
+    same_term v t && (same_term p q && (same_term l m && same_term u w))
 is_same_shape _ _ = false
+
+-- the terms of a wanted doubly linked segment: where it begins, what stands before it, its last cell, where it ends
+abbrev pub four : List (Option Term) → (x b l y : Operand Term) → Option (Term × Term × Term × Term)
+four bindings x b l y =
+    option_and_then (λ e. option_map (λ f. (e.0, e.1, f.0, f.1)) (both bindings l y)) (both bindings x b)
 
 -- a wanted segment or tree as an atom
 abbrev pub wanted_shape : List (Option Term) → Conjunct Term → Option Atom
 wanted_shape bindings (segment q next x y) = option_map (λ e. Ls e.0 e.1) (both bindings x y)
 wanted_shape bindings (tree q left right x) = option_map Tree (term_of bindings x)
+wanted_shape bindings (doubly q next back x b l y) =
+    option_map (λ d. Dll d.0 d.1 d.2 d.3) (four bindings x b l y)
 wanted_shape bindings _ = None
+
+-- empty: a wanted segment or tree is nothing
+abbrev pub empty_step : Step
+empty_step s bindings c cs =
+    option_and_then (λ x. cond (is_nothing x) (Some (removed s bindings cs)) None) (wanted_shape bindings c)
 
 -- that atom is handed over, where it is the wanted one
 abbrev pub exact_there : (a : ℕ) → State → List (Option Term) → Conjuncts Term → (wanted : Atom) → Option Want
@@ -223,10 +235,46 @@ head_there a s bindings w cs e =
     (cell_at s.atoms a e.0))
     None
 
--- head: a wanted segment whose ends differ begins with that cell
-abbrev pub head_step : (a : ℕ) → Step
-head_step a s bindings c cs =
+abbrev pub list_head_step : (a : ℕ) → Step
+list_head_step a s bindings c cs =
     option_and_then (λ w. option_and_then (head_there a s bindings w cs) (both bindings w.from w.to)) (wanted_list c)
+
+-- the rest of a wanted doubly linked segment is still wanted
+abbrev pub double_from : WantedDouble → (v p l u : Term) → Conjunct Term
+double_from w v p l u = doubly w.place w.next w.back (Known v) (Known p) (Known l) (Known u)
+
+-- a cell at the term that is known to lead back to that one, and where it leads
+abbrev pub double_cell : (a : ℕ) → State → List (Option Term) → WantedDouble → (v p : Term) → Option (Fit × Term)
+double_cell a s bindings w v p =
+    option_and_then (λ fields. option_map (λ f. link f w.next)
+    (fit_known (first_fit s fields bindings) (field_term fields w.back) p))
+    (cell_at s.atoms a v)
+
+-- a wanted doubly linked segment between terms that differ begins with that cell; the rest of it, before which that
+-- cell stands, is still wanted
+abbrev pub double_head_there : (a : ℕ) → State → List (Option Term) → WantedDouble → Conjuncts Term
+    → Term × Term × Term × Term → Option Want
+double_head_there a s bindings w cs d =
+    cond (differs s d.0 d.3)
+    (option_map (λ l.
+    removed (handed_cell s d.0 a l.0) bindings (also (double_from w l.1 d.0 d.2 d.3) cs))
+    (double_cell a s bindings w d.0 d.1))
+    None
+
+abbrev pub double_head_step : (a : ℕ) → Step
+double_head_step a s bindings c cs =
+    option_and_then (λ w.
+    option_and_then (double_head_there a s bindings w cs) (four bindings w.from w.before w.last w.to))
+    (wanted_double c)
+
+-- by the first of two steps that there is
+abbrev pub either_step : (one two : Step) → Step
+either_step one two s bindings c cs = first_of (one s bindings c cs) (two s bindings c cs)
+
+-- head: a wanted segment whose ends differ begins with that cell; a doubly linked one only where that is known to
+-- lead back to what is to stand before it
+abbrev pub head_step : (a : ℕ) → Step
+head_step a = either_step (list_head_step a) (double_head_step a)
 
 -- a segment from that term begins a wanted one: the rest goes from its end
 abbrev pub joined : State → (a : ℕ) → (t u : Term) → Atom → Option Term
@@ -240,11 +288,36 @@ join_there a s bindings w cs e =
     option_map (λ v. removed (handed s a x) bindings (also (list_from w v e.1) cs)) (joined s a e.0 e.1 x))
     (atom_at s.atoms a)
 
+abbrev pub list_join_step : (a : ℕ) → Step
+list_join_step a s bindings c cs =
+    option_and_then (λ w. option_and_then (join_there a s bindings w cs) (both bindings w.from w.to)) (wanted_list c)
+
+-- a doubly linked segment from the first term, before which the second stands, begins a wanted one: the rest goes from
+-- its end, and before that stands its last cell
+abbrev pub double_joined : State → (a : ℕ) → (v p u : Term) → Atom → Option (Term × Term)
+double_joined s a v p u (Dll t q m w) =
+    cond (same_term t v && (same_term q p && (is_constant u || allocated s u (Some a)))) (Some (w, m)) None
+double_joined s a v p u _ = None
+
+-- a wanted doubly linked segment begins with that one; the rest of it is still wanted
+abbrev pub double_join_there : (a : ℕ) → State → List (Option Term) → WantedDouble → Conjuncts Term
+    → Term × Term × Term × Term → Option Want
+double_join_there a s bindings w cs d =
+    option_and_then (λ x.
+    option_map (λ e. removed (handed s a x) bindings (also (double_from w e.0 e.1 d.2 d.3) cs))
+    (double_joined s a d.0 d.1 d.3 x))
+    (atom_at s.atoms a)
+
+abbrev pub double_join_step : (a : ℕ) → Step
+double_join_step a s bindings c cs =
+    option_and_then (λ w.
+    option_and_then (double_join_there a s bindings w cs) (four bindings w.from w.before w.last w.to))
+    (wanted_double c)
+
 -- join: a wanted segment begins with that segment; its end is a constant or a cell of another atom, so it can't be
 -- inside that segment
 abbrev pub join_step : (a : ℕ) → Step
-join_step a s bindings c cs =
-    option_and_then (λ w. option_and_then (join_there a s bindings w cs) (both bindings w.from w.to)) (wanted_list c)
+join_step a = either_step (list_join_step a) (double_join_step a)
 
 -- a subtree of a wanted tree is still wanted
 abbrev pub tree_from : WantedTree → Term → Conjunct Term

@@ -3,10 +3,11 @@
 ghost use Rattle.std.specs.Prelude.{◌≡◌, ◌+◌, ◌<◌, ◌≤◌, ◌^◌, IfNone, IfOk, IfSome, None, OnErr, Some, [], is_some, true};
 ghost use Rattle.std.specs.Option.{option_map};
 ghost use Rattle.sf_consume.specs.Checked.Fits.{AnswersBy, after_changes, fitting_of};
-ghost use Rattle.sf_consume.specs.Subtract.{cell_step, fitting, head_step, new_symbols, node_step, stepped};
+ghost use Rattle.sf_consume.specs.Subtract.{cell_step, fitting, head_step, list_head_step, new_symbols, node_step, stepped};
 ghost use Rattle.sf_sym.specs.Cells.{cell_at};
 ghost use Rattle.sf_sym.specs.Pending.{existentials_in, pending_of};
 
+use crate::doubles::double_head;
 use crate::fit::{Fitting, fit_fields, link};
 use crate::wanted::{as_cell, as_list, as_tree, both, list_from, tree_from};
 use sf_base::FieldId;
@@ -74,7 +75,7 @@ fn fitting(
 
 /// The cell of that number at the root, of which nothing is compared yet. `None` exactly where
 /// there is none; an `Err` means out of memory.
-fn first_fit(
+pub(crate) fn first_fit(
     alloc: Global,
     state: &State,
     a: u32,
@@ -109,6 +110,7 @@ fn bind_all(want: &mut Pending, changes: &[(u32, Term)])
 
 /// head: a wanted segment whose ends differ begins with that cell. `None` exactly where it doesn't;
 /// an `Err` means out of memory. After either nothing has changed.
+#[tactic(auto, using(crate::proofs::Either::first_is, crate::proofs::Either::second_is))]
 pub(crate) fn head(
     alloc: Global,
     state: &mut State,
@@ -117,6 +119,25 @@ pub(crate) fn head(
 ) -> Result<Option<()>, AllocError>
     requires { state.old.next_sym + 1 < 2 ^ 32 }
     ensures answers { IfOk result (AnswersBy (head_step a) state.old state.new want.old want.new) }
+    ensures err { OnErr result (state.new ≡ state.old) }
+    ensures err_want { OnErr result (want.new ≡ want.old) }
+{
+    if list_head(alloc, state, want, a)?.is_some() {
+        return Ok(Some(()));
+    }
+    double_head(alloc, state, want, a)
+}
+
+/// The same of a segment that isn't doubly linked.
+fn list_head(
+    alloc: Global,
+    state: &mut State,
+    want: &mut Pending,
+    a: u32,
+) -> Result<Option<()>, AllocError>
+    requires { state.old.next_sym + 1 < 2 ^ 32 }
+    ensures answers { IfOk result
+        (AnswersBy (list_head_step a) state.old state.new want.old want.new) }
     ensures err { OnErr result (state.new ≡ state.old) }
     ensures err_want { OnErr result (want.new ≡ want.old) }
 {

@@ -76,7 +76,7 @@ fn fit_field(
 }
 
 /// A wanted field that has a term has it in the cell.
-fn fit_known(fit: Fitting, field: FieldId, u: Term) -> Option<Fitting>
+pub(crate) fn fit_known(fit: Fitting, field: FieldId, u: Term) -> Option<Fitting>
     ensures fits { (bindings : List (Option TermOf)) → option_map (fit_of bindings) result
         ≡ fit_known (fit_of bindings fit) (field_term fit.fields field) u }
     ensures symbols { IfSome result (λ f. f.next_sym ≡ fit.next_sym) }

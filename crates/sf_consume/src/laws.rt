@@ -31,7 +31,8 @@ pub fn cell_keeps_wants()
     ensures { CellKeepsWants }
 {}
 
-/// empty: a segment from a term to itself, and the tree of nil, need no heap.
+/// empty: a segment from a term to itself, and the tree of nil, need no heap; a doubly linked segment
+/// needs none where its last cell is what stands before it, too.
 #[tactic(auto, using(crate::proofs::PureLaws::empty_keeps_wants))]
 pub fn empty_keeps_wants()
     ensures { EmptyKeepsWants }
@@ -43,15 +44,16 @@ pub fn exact_keeps_wants()
     ensures { ExactKeepsWants }
 {}
 
-/// head: a cell and a segment from its link on are a segment.
-#[tactic(auto, using(crate::proofs::CellLaws::head_keeps_wants))]
+/// head: a cell and a segment from its link on are a segment; a doubly linked one where the cell leads
+/// back to what stands before it, and stands before the rest.
+#[tactic(auto, using(crate::proofs::SegmentLaws::head_keeps_wants))]
 pub fn head_keeps_wants()
     ensures { HeadKeepsWants }
 {}
 
 /// join: a segment and one from its end on are a segment, where the end of both isn't inside the
-/// first.
-#[tactic(auto, using(crate::proofs::PartLaws::join_keeps_wants))]
+/// first; of doubly linked ones the last cell of the first stands before the second.
+#[tactic(auto, using(crate::proofs::SegmentLaws::join_keeps_wants))]
 pub fn join_keeps_wants()
     ensures { JoinKeepsWants }
 {}

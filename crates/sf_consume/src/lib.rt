@@ -8,6 +8,7 @@
 //! - `differing`: the first field of a wanted cell that doesn't fit.
 //! - `pure`: wanted equalities and inequalities, and what is wanted of no heap.
 //! - `cells`: wanted parts that are cells or begin with one.
+//! - `doubles`: wanted doubly linked segments that begin with a cell or with such a segment.
 //! - `parts`: wanted segments and trees that are an atom or begin with one.
 //! - `wanted`: what is wanted first.
 //! - `ready`: whether a step has a row, without taking it.
@@ -17,6 +18,7 @@
 
 mod cells;
 mod differing;
+mod doubles;
 mod fault;
 mod fit;
 pub mod laws;
@@ -33,4 +35,4 @@ pub use meeting::Met;
 pub use parts::is_same_shape;
 pub use ready::{binds, fits_cell, is_empty, is_same};
 pub use rows::subtract;
-pub use wanted::{both, wanted_shape};
+pub use wanted::{both, four, wanted_shape};

@@ -2,8 +2,9 @@
 
 ghost use Rattle.std.specs.Prelude.{◌≡◌, IfNone, IfOk, IfSome, None, OnErr, Some};
 ghost use Rattle.sf_consume.specs.Checked.Fits.{AnswersBy};
-ghost use Rattle.sf_consume.specs.Subtract.{exact_step, is_same_shape, join_step, joined, stepped};
+ghost use Rattle.sf_consume.specs.Subtract.{exact_step, is_same_shape, join_step, joined, list_join_step, stepped};
 
+use crate::doubles::double_join;
 use crate::wanted::{as_list, both, list_from, wanted_shape};
 use sf_sym::{Atom, Pending, State, Term};
 use std::alloc::AllocError;
@@ -39,6 +40,9 @@ pub fn is_same_shape(x: &Atom, y: &Atom) -> bool
     match (x, y) {
         (Atom::Ls(t, u), Atom::Ls(v, w)) => t.is(*v) && u.is(*w),
         (Atom::Tree(t), Atom::Tree(v)) => t.is(*v),
+        (Atom::Dll(v, p, l, u), Atom::Dll(t, q, m, w)) => {
+            v.is(*t) && p.is(*q) && l.is(*m) && u.is(*w)
+        }
         _ => false,
     }
 }
@@ -46,8 +50,22 @@ pub fn is_same_shape(x: &Atom, y: &Atom) -> bool
 /// join: a wanted segment begins with that segment; its end is a constant or a cell of another
 /// atom. `None` exactly where it isn't so; an `Err` means out of memory. After either nothing has
 /// changed.
+#[tactic(auto, using(crate::proofs::Either::first_is, crate::proofs::Either::second_is))]
 pub(crate) fn join(state: &mut State, want: &mut Pending, a: u32) -> Result<Option<()>, AllocError>
     ensures answers { IfOk result (AnswersBy (join_step a) state.old state.new want.old want.new) }
+    ensures err { OnErr result (state.new ≡ state.old) }
+    ensures err_want { OnErr result (want.new ≡ want.old) }
+{
+    if list_join(state, want, a)?.is_some() {
+        return Ok(Some(()));
+    }
+    double_join(state, want, a)
+}
+
+/// The same of a segment that isn't doubly linked.
+fn list_join(state: &mut State, want: &mut Pending, a: u32) -> Result<Option<()>, AllocError>
+    ensures answers { IfOk result
+        (AnswersBy (list_join_step a) state.old state.new want.old want.new) }
     ensures err { OnErr result (state.new ≡ state.old) }
     ensures err_want { OnErr result (want.new ≡ want.old) }
 {

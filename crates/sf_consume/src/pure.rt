@@ -4,7 +4,7 @@ ghost use Rattle.std.specs.Prelude.{◌≡◌, IfNone, IfSome, None, Some};
 ghost use Rattle.sf_consume.specs.Checked.Fits.{AnswersBy};
 ghost use Rattle.sf_consume.specs.Subtract.{apart_step, bind_step, binding, empty_step, one_binding, same_step, stepped, unbound};
 
-use crate::wanted::{as_equality, as_inequality, both, wanted_ends};
+use crate::wanted::{as_equality, as_inequality, both, wanted_shape};
 use sf_core::Operand;
 use sf_sym::{Pending, State, Term, term_of};
 
@@ -46,12 +46,13 @@ pub(crate) fn apart(state: &State, want: &mut Pending) -> Option<()>
     Some(())
 }
 
-/// empty: a segment from a term to itself, or the tree of nil.
+/// empty: a segment from a term to itself, or the tree of nil; of a doubly linked segment the last
+/// cell is what stands before it, too.
 pub(crate) fn empty(state: &State, want: &mut Pending) -> Option<()>
     ensures answers { AnswersBy empty_step state.now state.now want.old want.new result }
 {
-    let (t, u) = wanted_ends(want.bindings(), want.first()?)?;
-    if !t.is(u) {
+    let wanted = wanted_shape(want.bindings(), want.first()?)?;
+    if !wanted.is_nothing() {
         return None;
     }
     want.take_first();

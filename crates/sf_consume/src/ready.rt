@@ -8,7 +8,7 @@ ghost use Rattle.sf_sym.specs.State.{State as AnyState};
 
 use crate::meeting::{Seen, fit};
 use crate::pure::binding;
-use crate::wanted::{as_cell, as_equality, both, wanted_ends};
+use crate::wanted::{as_cell, as_equality, both, wanted_shape};
 use sf_core::Conjunct;
 use sf_sym::{State, Term, term_of};
 use std::alloc::{AllocError, Global};
@@ -38,13 +38,14 @@ pub fn is_same(bindings: &[Option<Term>], c: &Conjunct<Term>) -> bool
     }
 }
 
-/// Whether empty has a row: a segment from a term to itself, or the tree of nil.
+/// Whether empty has a row: a segment from a term to itself, or the tree of nil; of a doubly linked
+/// segment the last cell is what stands before it, too.
 pub fn is_empty(bindings: &[Option<Term>], c: &Conjunct<Term>) -> bool
     ensures { (s : AnyState)
         → result ≡ is_some (empty_step s bindings.now (conjunct_of c.now) none) }
 {
-    match wanted_ends(bindings, c) {
-        Some((t, u)) => t.is(u),
+    match wanted_shape(bindings, c) {
+        Some(x) => x.is_nothing(),
         None => false,
     }
 }

@@ -1,7 +1,9 @@
 pub mod Sat
 pub mod Determined
 pub mod Orders
+pub mod Values
 pub mod Segments
+pub mod DoubleSegments
 pub mod Trees
 pub mod Finite
 pub mod Laws

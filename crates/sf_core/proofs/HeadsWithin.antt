@@ -19,7 +19,7 @@ use Rattle.sf_core.specs.declared.command.Expr.TheVariants.{Var as Variable, Nil
 use Rattle.sf_core.specs.declared.command.Occurrence.{Occurrence}
 use Rattle.sf_core.specs.Program.Formed.{IsInBody, IsSettable, ExprWithin, TestWithin, OperandWithin, FieldsWithin, LevelWithin, ConjunctsWithin, ConjunctWithin, CallWithin, CommandWithin, BlockWithin}
 use Rattle.sf_core.specs.Program.Heads.{expr_occurrences, operand_occurrences, test_occurrences, level_occurrences, conjuncts_occurrences, conjunct_occurrences, call_occurrences, head_occurrences, head_calls, head_forks, head_regions, Site, sites, inner_sites}
-use Rattle.sf_core.specs.Program.Syntax.{Conjunct, holds, points, segment, tree, choose, Level, level, Conjuncts, none, also, Call, Command, assign, look_up, mutate, new, dispose, if, while, call, fork, with, Block, done, then, Procedure, Program}
+use Rattle.sf_core.specs.Program.Syntax.{Conjunct, holds, points, segment, doubly, tree, choose, Level, level, Conjuncts, none, also, Call, Command, assign, look_up, mutate, new, dispose, if, while, call, fork, with, Block, done, then, Procedure, Program}
 
 -- what occurs in each of those is such a variable
 abbrev Within : (Var → Type 0) → List Occurrence → Type 0
@@ -84,6 +84,14 @@ mutual
   conjunct-within fields V made (segment q next from to) w =
       within-append V (operand_occurrences from) (operand_occurrences to)
       (operand-within V made from w.1) (operand-within V made to w.2)
+  conjunct-within fields V made (doubly q next back from before last to) w =
+      within-append V (operand_occurrences from)
+      (operand_occurrences before ++ (operand_occurrences last ++ operand_occurrences to))
+      (operand-within V made from w.2)
+      (within-append V (operand_occurrences before) (operand_occurrences last ++ operand_occurrences to)
+      (operand-within V made before w.3)
+      (within-append V (operand_occurrences last) (operand_occurrences to)
+      (operand-within V made last w.4) (operand-within V made to w.5)))
   conjunct-within fields V made (tree q left right root) w = operand-within V made root w.2
   conjunct-within fields V made (choose q t this that) w =
       within-append V (test_occurrences operand_occurrences t)

@@ -13,7 +13,7 @@ use Rattle.sf_core.specs.declared.command.Expr.TheVariants.{Var as Variable, Nil
 use Rattle.sf_core.specs.declared.command.Occurrence.{Occurrence}
 use Rattle.sf_core.specs.Assertions.Occurs.{OccursIn, OccursInAll, OccursInOne, OccursInTest, OccursInFields}
 use Rattle.sf_core.specs.Program.Heads.{operand_occurrences, test_occurrences, level_occurrences, conjuncts_occurrences, conjunct_occurrences}
-use Rattle.sf_core.specs.Program.Syntax.{Conjunct, holds, points, segment, tree, choose, Level, level, Conjuncts, none, also}
+use Rattle.sf_core.specs.Program.Syntax.{Conjunct, holds, points, segment, doubly, tree, choose, Level, level, Conjuncts, none, also}
 
 module _ (x : Occurrence) where
   -- the occurrence as an operand
@@ -51,6 +51,10 @@ module _ (x : Occurrence) where
     conjunct-is (holds q t) = test-is t
     conjunct-is (points q root fs) = contains-append _ _ x _ _ (operand-is root) (fields-is fs)
     conjunct-is (segment q next from to) = contains-append _ _ x _ _ (operand-is from) (operand-is to)
+    conjunct-is (doubly q next back from before last to) =
+        contains-append _ _ x _ _ (operand-is from)
+        (contains-append _ _ x _ _ (operand-is before)
+        (contains-append _ _ x _ _ (operand-is last) (operand-is to)))
     conjunct-is (tree q left right root) = operand-is root
     conjunct-is (choose q t this that) =
         contains-append _ _ x _ _ (test-is t)

@@ -42,6 +42,10 @@ pub enum Conjunct<E> {
     Points(Place, Operand<E>, Vec<(FieldId, Operand<E>)>),
     /// A list segment along the field: from the first up to the second.
     Segment(Place, FieldId, Operand<E>, Operand<E>),
+    /// A doubly linked segment along the first field and, backwards, the second: from the first
+    /// operand up to the last one; before its first cell stands the second operand, and its last
+    /// cell is at the third.
+    Doubly(Place, FieldId, FieldId, Operand<E>, Operand<E>, Operand<E>, Operand<E>),
     /// A tree with its left and its right field.
     Tree(Place, FieldId, FieldId, Operand<E>),
     /// One of two levels.

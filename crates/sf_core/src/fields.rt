@@ -11,6 +11,8 @@ use sf_base::{FieldId, Name};
 pub struct Links {
     /// The field of a list segment.
     pub tl: Option<FieldId>,
+    /// The field by which a doubly linked segment leads back.
+    pub pv: Option<FieldId>,
     /// The left field of a tree.
     pub l: Option<FieldId>,
     /// The right field of a tree.
@@ -25,6 +27,7 @@ impl Links {
     {
         Links {
             tl: field_named(fields, "tl"),
+            pv: field_named(fields, "pv"),
             l: field_named(fields, "l"),
             r: field_named(fields, "r"),
         }

@@ -121,6 +121,13 @@ fn add_conjunct(c: &Conjunct<Expr>, found: &mut Vec<Occurrence>) -> Result<(), A
             add_operand(to, found)?;
             Ok(())
         }
+        Conjunct::Doubly(_, _, _, from, before, last, to) => {
+            add_operand(from, found)?;
+            add_operand(before, found)?;
+            add_operand(last, found)?;
+            add_operand(to, found)?;
+            Ok(())
+        }
         Conjunct::Tree(_, _, _, root) => {
             add_operand(root, found)?;
             Ok(())

@@ -5,12 +5,12 @@ ghost use Rattle.sf_base.specs.Results.{Appends};
 ghost use Rattle.sf_ast.specs.View.{annotation_of as surface_annotation, assertion_of};
 ghost use Rattle.sf_ast.specs.Surface.{filled};
 ghost use Rattle.sf_core.specs.Program.View as core;
-ghost use Rattle.sf_elab.specs.Annotations.Assertions.{operand_of, operand_faults, values_of, values_faults, link_of, segment_faults, tree_faults, conjunct_of, conjuncts_of, level_of, conjunct_faults, level_faults, annotation_of, annotation_faults, maybe_of, maybe_faults};
+ghost use Rattle.sf_elab.specs.Annotations.Assertions.{operand_of, operand_faults, values_of, values_faults, link_of, segment_faults, doubly_faults, four_faults, tree_faults, conjunct_of, conjuncts_of, level_of, conjunct_faults, level_faults, annotation_of, annotation_faults, maybe_of, maybe_faults};
 ghost use Rattle.sf_elab.specs.Annotations.Existentials.{taking, names_after, names_after_all, names_after_level};
 ghost use Rattle.sf_elab.specs.Annotations.Flat.{flats, flat_of};
-ghost use Rattle.sf_core.specs.Program.Syntax.{level, none, points as cell, segment, tree};
+ghost use Rattle.sf_core.specs.Program.Syntax.{doubly, level, none, points as cell, segment, tree};
 ghost use Rattle.sf_elab.specs.declared.fault.Fault.TheVariants.{Twice};
-ghost use Rattle.sf_elab.specs.declared.fault.Link.TheVariants.{Next, Left, Right};
+ghost use Rattle.sf_elab.specs.declared.fault.Link.TheVariants.{Next, Back, Left, Right};
 ghost use Rattle.sf_elab.specs.Files.Faults.{link_name, where_};
 ghost use Rattle.sf_elab.specs.Names.Table.{declare, find, has};
 ghost use Rattle.sf_elab.specs.Names.Texts.{text as word_text};
@@ -34,6 +34,7 @@ pub fn link_name(link: Link) -> &'static [u8]
 {
     match link {
         Link::Next => b"tl",
+        Link::Back => b"pv",
         Link::Left => b"l",
         Link::Right => b"r",
     }
@@ -193,6 +194,24 @@ fn next(env: &Env<'_>, place: Place, found: &mut Vec<Fault>) -> Result<FieldId, 
     Ok(next.unwrap_or(FieldId(0)))
 }
 
+/// The fields of a doubly linked segment.
+fn both_ways(
+    env: &Env<'_>,
+    place: Place,
+    found: &mut Vec<Fault>,
+) -> Result<(FieldId, FieldId), AllocError>
+    ensures same { IfOk result
+        (λ y. y ≡ (link_of (env_of env.now) Next, link_of (env_of env.now) Back)) }
+    ensures faults { Appends result found.old.items found.new.items
+        (doubly_faults (env_of env.now) place) }
+{
+    let next = link(env, Link::Next);
+    let back = link(env, Link::Back);
+    report_if(next.is_none(), Fault::Missing(place, Link::Next), found)?;
+    report_if(back.is_none(), Fault::Missing(place, Link::Back), found)?;
+    Ok((next.unwrap_or(FieldId(0)), back.unwrap_or(FieldId(0))))
+}
+
 /// The fields of a tree.
 fn both_links(
     env: &Env<'_>,
@@ -265,6 +284,33 @@ fn between(
     Ok(Conjunct::Segment(place, next, left, right))
 }
 
+/// A doubly linked segment: where it begins, what is before it, where its last cell is, where it ends.
+fn doubly(
+    env: &Env<'_>,
+    levels: &Levels,
+    place: Place,
+    from: &SurfaceOperand,
+    before: &SurfaceOperand,
+    last: &SurfaceOperand,
+    to: &SurfaceOperand,
+    found: &mut Vec<Fault>,
+) -> Result<Conjunct<Expr>, AllocError>
+    ensures same { IfOk result (λ c. core.conjunct_of c
+        ≡ doubly place (link_of (env_of env.now) Next) (link_of (env_of env.now) Back)
+        (operand_of (env_of env.now) levels.now from.now)
+        (operand_of (env_of env.now) levels.now before.now)
+        (operand_of (env_of env.now) levels.now last.now)
+        (operand_of (env_of env.now) levels.now to.now)) }
+    ensures faults { Appends result found.old.items found.new.items
+        (doubly_faults (env_of env.now) place
+        ++ four_faults (env_of env.now) from.now before.now last.now to.now) }
+{
+    let (next, back) = both_ways(env, place, found)?;
+    let (from, before) = sides(env, levels, from, before, found)?;
+    let (last, to) = sides(env, levels, last, to, found)?;
+    Ok(Conjunct::Doubly(place, next, back, from, before, last, to))
+}
+
 /// A tree.
 fn tree(
     env: &Env<'_>,
@@ -308,6 +354,7 @@ fn conjunct(
         }
         Flat::Points(p, x, fields) => points(alloc, env, levels, *p, x, fields, found),
         Flat::Segment(p, x, y) => between(env, levels, *p, x, y, found),
+        Flat::Doubly(p, x, b, l, y) => doubly(env, levels, *p, x, b, l, y, found),
         Flat::Tree(p, x) => tree(env, levels, *p, x, found),
         Flat::If(p, condition, this, that) => {
             let test = test(env, levels, condition, found)?;

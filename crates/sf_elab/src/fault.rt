@@ -10,6 +10,8 @@ use thiserror::Error;
 pub enum Link {
     /// `tl`
     Next,
+    /// `pv`
+    Back,
     /// `l`
     Left,
     /// `r`

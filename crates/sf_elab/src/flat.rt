@@ -21,6 +21,8 @@ pub enum Flat {
     Points(Place, SurfaceOperand, Vec<SurfaceField>),
     /// A segment.
     Segment(Place, SurfaceOperand, SurfaceOperand),
+    /// A doubly linked segment.
+    Doubly(Place, SurfaceOperand, SurfaceOperand, SurfaceOperand, SurfaceOperand),
     /// A tree.
     Tree(Place, SurfaceOperand),
     /// A choice of two levels.
@@ -81,6 +83,7 @@ fn add_conjunct(alloc: Global, c: &SurfaceConjunct, done: &mut Vec<Flat>) -> Res
             let nil = SurfaceOperand::Known(SurfaceExpr::Nil(*p));
             push(Flat::Segment(*p, *x, nil), done)
         }
+        SurfaceConjunct::Dll(p, x, b, l, y) => push(Flat::Doubly(*p, *x, *b, *l, *y), done),
         SurfaceConjunct::Tree(p, x) => push(Flat::Tree(*p, *x), done),
     }
 }
@@ -165,6 +168,11 @@ fn add_words_in(c: &Flat, words: &mut Vec<Word>) -> Result<(), AllocError>
             add_fields(fields, words)
         }
         Flat::Segment(_, x, y) => add_both(x, y, words),
+        Flat::Doubly(_, x, b, l, y) => {
+            add_operand(x, words)?;
+            add_operand(b, words)?;
+            add_both(l, y, words)
+        }
         Flat::Tree(_, x) => add_operand(x, words),
     }
 }

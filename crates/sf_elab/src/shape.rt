@@ -39,6 +39,7 @@ fn conjunct_place(c: &Conjunct<Expr>) -> Place
         Conjunct::Holds(place, _) => *place,
         Conjunct::Points(place, _, _) => *place,
         Conjunct::Segment(place, _, _, _) => *place,
+        Conjunct::Doubly(place, _, _, _, _, _, _) => *place,
         Conjunct::Tree(place, _, _, _) => *place,
         Conjunct::If(place, _, _, _) => *place,
     }

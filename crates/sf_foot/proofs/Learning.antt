@@ -10,7 +10,7 @@ use Rattle.sf_core.specs.declared.assertion.Operand.{Operand}
 use Rattle.sf_core.specs.declared.assertion.Operand.TheVariants.{Known as Evaluates, Exists}
 use Rattle.sf_core.specs.Assertions.Determined.{IsKnown, is_existential, is_in_fields}
 use Rattle.sf_core.specs.Assertions.Sat.{HasFields, operand}
-use Rattle.sf_core.proofs.Assertions.Sat.{value-which}
+use Rattle.sf_core.proofs.Assertions.Values.{value-which}
 
 -- values of existentials that are these, for what is known
 abbrev pub Agree : (ℕ → Bool) → (ℕ → Value) → (ℕ → Value) → Type 0

@@ -14,13 +14,13 @@ use Rattle.sf_base.proofs.Options.{option_map-some}
 use Rattle.sf_core.specs.declared.assertion.Operand.{Operand}
 use Rattle.sf_core.specs.declared.assertion.Test.{Test}
 use Rattle.sf_core.specs.Assertions.Sat.{HasFields, IsTrueOf, Sat, SatAll, SatOne, Tree, operand}
-use Rattle.sf_core.specs.Program.Syntax.{Conjunct, holds, points, segment, tree, choose, Level, level, Conjuncts, none, also}
+use Rattle.sf_core.specs.Program.Syntax.{Conjunct, holds, points, segment, doubly, tree, choose, Level, level, Conjuncts, none, also}
 use Rattle.sf_heap.specs.Cells.{Cells, FieldValues, cell_of, heap_of}
 use Rattle.sf_foot.specs.Checked.Places.{part_at}
 use Rattle.sf_foot.specs.Checked.Taking.{AllTake, LevelTakes, OneTakes}
 use Rattle.sf_foot.specs.Checked.Walks.{TreesWalk}
-use Rattle.sf_foot.proofs.Parts.{Distinct, IsWalked, part-splits, seg-from_walk, walk-from_seg}
-use Rattle.sf_foot.proofs.Pigeons.{AllHave, have-append, have-segment, have-trees}
+use Rattle.sf_foot.proofs.Parts.{Distinct, IsWalked, dseg-from_walk, part-splits, seg-from_walk, walk-from_dseg, walk-from_seg}
+use Rattle.sf_foot.proofs.Pigeons.{AllHave, have-append, have-double, have-segment, have-trees}
 use Rattle.sf_foot.proofs.Sums.{distinct-left, distinct-right, part-append, part-both}
 use Rattle.sf_foot.proofs.Trees.{trees-from_walk, walk-from_one_tree}
 use Rattle.sf_core.proofs.Assertions.Sat.{test-which}
@@ -44,6 +44,7 @@ module _ {E : Type 0} (heap : Cells) (val : E → Value) where
     have-one (holds p t) some ls k = subst (AllHave heap) (sym k.0) tt
     have-one (points p x fs) some ls k = subst (AllHave heap) (sym k.5) (ap is_some k.3, tt)
     have-one (segment p next x y) some ls k = have-segment heap next _ _ ls k
+    have-one (doubly p next back x b l y) some ls k = have-double heap next back _ _ _ _ ls k
     have-one (tree p left right x) some ls k = have-trees heap left right _ ls k
     have-one (choose p t this that) some ls k = either (test-which (operand val some) t)
         (λ i. have-level this some ls (k.0 i)) (λ n. have-level that some ls (k.1 n))
@@ -92,6 +93,7 @@ module _ {E : Type 0} (heap : Cells) (val : E → Value) where
       k.4,
     )
     sat-from_one (segment p next x y) some ls k d = seg-from_walk heap next _ _ ls k d
+    sat-from_one (doubly p next back x b l y) some ls k d = dseg-from_walk heap next back _ _ _ _ ls k d
     sat-from_one (tree p left right x) some ls k d = tree_of left right _ ls k d
     sat-from_one (choose p t this that) some ls k d =
         (λ i. sat-from_level this some ls (k.0 i) d, λ n. sat-from_level that some ls (k.1 n) d)
@@ -169,6 +171,8 @@ module _ {E : Type 0} (heap : Cells) (val : E → Value) where
               (one_at k.0 fields.0 fields.1)));
         }
     one-from_sat (segment p next x y) some part rest s k = walk-from_seg heap next _ _ part rest s k
+    one-from_sat (doubly p next back x b l y) some part rest s k =
+        walk-from_dseg heap next back _ _ _ _ part rest s k
     one-from_sat (tree p left right x) some part rest s k = walk-from_one_tree heap left right _ part rest s k
     one-from_sat (choose p t this that) some part rest s k = either (test-which (operand val some) t)
         (λ i. walked-this p t this that some part i (level-from_sat this some part rest s (k.0 i)))

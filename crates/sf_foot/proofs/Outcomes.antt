@@ -21,13 +21,13 @@ use Rattle.sf_core.specs.Assertions.Occurs.{OccursIn, OccursInAll, OccursInOne, 
 use Rattle.sf_core.specs.Assertions.Sat.{HasFields, IsTrueOf, SameOutside, operand}
 use Rattle.sf_core.specs.Assertions.Scopes.{is_made_by}
 use Rattle.sf_core.proofs.Assertions.Sat.{test-which}
-use Rattle.sf_core.specs.Program.Syntax.{Conjunct, holds, points, segment, tree, choose, Level, level, Conjuncts, none, also}
+use Rattle.sf_core.specs.Program.Syntax.{Conjunct, holds, points, segment, doubly, tree, choose, Level, level, Conjuncts, none, also}
 use Rattle.sf_heap.specs.Cells.{Cells, FieldValues, cell_of}
 use Rattle.sf_foot.specs.Checked.Taking.{AllTake, LevelTakes, OneTakes}
-use Rattle.sf_foot.specs.Checked.Walks.{SegmentWalk, TreesWalk}
+use Rattle.sf_foot.specs.Checked.Walks.{DoubleWalk, SegmentWalk, TreesWalk}
 use Rattle.sf_foot.proofs.Learning.{Agree, Learned, Refuted, agree-first, agree-then, in_fields, itself, known-operand, learn-fields, learn-operand, plus, plus-first}
 use Rattle.sf_foot.proofs.Ready.{existential-is, occurs-fields}
-use Rattle.sf_foot.proofs.Walked.{Walked, walk-segment, walk-trees}
+use Rattle.sf_foot.proofs.Walked.{double-agree, walk-double, Walked, walk-segment, walk-trees}
 
 -- A heap with finitely many cells
 module _ (heap : Cells) where
@@ -257,6 +257,19 @@ module _ (heap : Cells) where
         (known-operand val known v some x a k) w)
         (walk-segment heap next (operand val v y) (suc (len heap)) (operand val v x))
 
+    take-double : (p : Place) (known : ℕ → Bool) (v : ℕ → Value) (next back : FieldId) (x b l y : Operand E)
+        → IsKnown known x → IsKnown known b → IsKnown known l → IsKnown known y
+        → Outcome (OneTakes heap (doubly p next back x b l y) val) known (plus known nothing) v
+    take-double p known v next back x b l y i j k m = take-walk (OneTakes heap (doubly p next back x b l y) val)
+        (DoubleWalk heap next back (operand val v l) (operand val v y) (operand val v b) (operand val v x)) known v
+        (λ some ls a w. double-agree (sym (known-operand val known v some x a i))
+        (sym (known-operand val known v some b a j)) (sym (known-operand val known v some l a k))
+        (sym (known-operand val known v some y a m)) w)
+        (λ some ls a w. double-agree (known-operand val known v some x a i) (known-operand val known v some b a j)
+        (known-operand val known v some l a k) (known-operand val known v some y a m) w)
+        (walk-double heap next back (operand val v l) (operand val v y) (suc (len heap)) (operand val v b)
+        (operand val v x))
+
     take-tree : (p : Place) (known : ℕ → Bool) (v : ℕ → Value) (left right : FieldId) (x : Operand E) → IsKnown known x
         → Outcome (OneTakes heap (tree p left right x) val) known (plus known nothing) v
     take-tree p known v left right x k = take-walk (OneTakes heap (tree p left right x) val)
@@ -275,6 +288,7 @@ module _ (heap : Cells) where
     occurs-one (holds p (Differ x y)) n e = absurd (false≢true e)
     occurs-one (points p x fs) n e = inr (occurs-fields n fs e)
     occurs-one (segment p next x y) n e = absurd (false≢true e)
+    occurs-one (doubly p next back x b l y) n e = absurd (false≢true e)
     occurs-one (tree p left right x) n e = absurd (false≢true e)
     occurs-one (choose p t this that) n e = absurd (false≢true e)
 
@@ -425,6 +439,7 @@ module _ (heap : Cells) where
       take-one (holds p t) known v k = take-test p known v t k
       take-one (points p x fs) known v k = take-cell p known v x fs k
       take-one (segment p next x y) known v k = take-segment p known v next x y k.0 k.1
+      take-one (doubly p next back x b l y) known v k = take-double p known v next back x b l y k.0 k.1 k.2 k.3
       take-one (tree p left right x) known v k = take-tree p known v left right x k
       take-one (choose p t this that) known v k = take-choice p t this that known v
           (supplied-test known t (λ n o. k.0 n (inl o)))

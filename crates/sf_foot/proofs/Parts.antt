@@ -10,13 +10,13 @@ use Rattle.std.proofs.lemmas.Option.{none-some}
 use Rattle.sf_base.specs.declared.ids.FieldId.{FieldId}
 use Rattle.sf_base.specs.declared.value.Value.{Value}
 use Rattle.sf_base.specs.HeapStore.{Apart, Cell, Heap, IsOne, Splits}
-use Rattle.sf_core.specs.Assertions.Sat.{Seg, end as seg_end, cell as seg_cell}
+use Rattle.sf_core.specs.Assertions.Sat.{Dseg, empty as dseg_empty, linked as dseg_linked, Seg, end as seg_end, cell as seg_cell}
 use Rattle.sf_base.proofs.HeapSplits.{one-in, one-is, one-single, put-elsewhere, put-here, single}
 use Rattle.sf_base.proofs.MapSplits.{empty_map, map-same, splits-has_left, splits-lacks_right, splits-comm, splits-assoc_right, splits-same_whole}
 use Rattle.sf_base.proofs.Options.{option_map-some}
 use Rattle.sf_heap.specs.Cells.{Cells, cell_of, heap_of}
 use Rattle.sf_foot.specs.Checked.Places.{part_at}
-use Rattle.sf_foot.specs.Checked.Walks.{SegmentWalk, end, cell}
+use Rattle.sf_foot.specs.Checked.Walks.{DoubleWalk, empty, linked, SegmentWalk, end, cell}
 
 -- no number comes twice
 abbrev pub Distinct : List ℕ → Type 0
@@ -63,6 +63,20 @@ seg-from_walk heap next to from ls (cell o a here rest p g w e) d =
     (seg_cell o a (cell_of here) (single a (cell_of here)) (part_at rest (heap_of heap)) p (one-single a (cell_of here))
     (part-splits (heap_of heap) a rest (cell_of here) there differ.0) behind)
 
+-- so is one that leads back, a doubly linked segment
+pub dseg-from_walk : (heap : Cells) (next back : FieldId) (last to before from : Value) (ls : List ℕ)
+    → DoubleWalk heap next back last to before from ls → Distinct ls
+    → Dseg next back last to before from (part_at ls (heap_of heap))
+dseg-from_walk heap next back last to before from ls (empty e b n) d =
+    dseg_empty e b (record { none = λ q. ap (λ l. part_at l (heap_of heap) q) n })
+dseg-from_walk heap next back last to before from ls (linked o a here rest p g k w e) d =
+    let differ = subst Distinct e d in
+    let there : heap_of heap a ≡ Some (cell_of here) = ap (option_map cell_of) g in
+    let behind = dseg-from_walk heap next back last to from _ rest w differ.1 in
+    subst (λ l. Dseg next back last to before from (part_at l (heap_of heap))) (sym e)
+    (dseg_linked o a (cell_of here) (single a (cell_of here)) (part_at rest (heap_of heap)) p (one-single a (cell_of here))
+    (part-splits (heap_of heap) a rest (cell_of here) there differ.0) k behind)
+
 -- the locations of a walk, whose part the heap is
 pub record IsWalked (walk : List ℕ → Type 0) (heap part : Heap) : Type 0 where
   pub locations : List ℕ
@@ -106,6 +120,31 @@ walk-from_seg heap next to from part rest s (seg_cell o a here one others p u t 
       locations = a ∷ behind.locations;
       walked = cell o a fields.0 behind.locations p fields.1
           (subst (λ v. SegmentWalk heap next to v behind.locations) (ap (λ c. c next.0) fields.2) behind.walked) refl;
+      distinct = (more.0, behind.distinct);
+      is = more.1;
+    }
+
+-- so is a doubly linked one
+pub walk-from_dseg : (heap : Cells) (next back : FieldId) (last to before from : Value) (part rest : Heap)
+    → Splits (heap_of heap) part rest → Dseg next back last to before from part
+    → IsWalked (DoubleWalk heap next back last to before from) (heap_of heap) part
+walk-from_dseg heap next back last to before from part rest s (dseg_empty e b n) = record {
+  locations = [];
+  walked = empty e b refl;
+  distinct = tt;
+  is = map-same part (part_at [] (heap_of heap)) (λ q. n.none q);
+}
+walk-from_dseg heap next back last to before from part rest s (dseg_linked o a here one others p u t k d) =
+    let inside = splits-assoc_right (splits-comm t) s in
+    let behind = walk-from_dseg heap next back last to from _ others _ inside.1 d in
+    let there : heap_of heap a ≡ Some here = splits-has_left a here s (one-in u t) in
+    let fields = option_map-some cell_of (get heap a) here there in
+    let more = part-more (heap_of heap) a behind.locations here part one others there u t behind.is in
+    record {
+      locations = a ∷ behind.locations;
+      walked = linked o a fields.0 behind.locations p fields.1 (ap (λ c. c back.0) (sym fields.2) ∙ k)
+          (subst (λ v. DoubleWalk heap next back last to from v behind.locations) (ap (λ c. c next.0) fields.2)
+          behind.walked) refl;
       distinct = (more.0, behind.distinct);
       is = more.1;
     }

@@ -9,7 +9,7 @@ use Rattle.std.proofs.lemmas.Cmp.{nat_cmp_total}
 use Rattle.sf_heap.specs.Cells.{Cells, HasCell}
 use Rattle.sf_base.specs.declared.ids.FieldId.{FieldId}
 use Rattle.sf_base.specs.declared.value.Value.{Value}
-use Rattle.sf_foot.specs.Checked.Walks.{SegmentWalk, end, cell, TreesWalk, none, leaf, node}
+use Rattle.sf_foot.specs.Checked.Walks.{DoubleWalk, empty, linked, SegmentWalk, end, cell, TreesWalk, none, leaf, node}
 use Rattle.sf_foot.proofs.Parts.{Distinct}
 
 -- each of the locations has a cell
@@ -49,6 +49,12 @@ pub have-segment : (heap : Cells) (next : FieldId) (to from : Value) (ls : List 
 have-segment heap next to from ls (end e n) = subst (AllHave heap) (sym n) tt
 have-segment heap next to from ls (cell o a here rest p g w e) =
     subst (AllHave heap) (sym e) (ap is_some g, have-segment heap next to _ rest w)
+
+pub have-double : (heap : Cells) (next back : FieldId) (last to before from : Value) (ls : List ℕ)
+    → DoubleWalk heap next back last to before from ls → AllHave heap ls
+have-double heap next back last to before from ls (empty e b n) = subst (AllHave heap) (sym n) tt
+have-double heap next back last to before from ls (linked o a here rest p g k w e) =
+    subst (AllHave heap) (sym e) (ap is_some g, have-double heap next back last to from _ rest w)
 
 pub have-trees : (heap : Cells) (left right : FieldId) (roots : List Value) (ls : List ℕ)
     → TreesWalk heap left right roots ls → AllHave heap ls

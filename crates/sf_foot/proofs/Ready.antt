@@ -15,7 +15,7 @@ use Rattle.sf_core.specs.Assertions.Determined.{IsKnown, is_existential, is_in_f
 use Rattle.sf_core.specs.Assertions.InOrder.{InOrder, InOrderInside, IsNext, is_known}
 use Rattle.sf_core.specs.Assertions.Occurs.{OccursInFields}
 use Rattle.sf_core.specs.Assertions.Scopes.{is_made_by}
-use Rattle.sf_core.specs.Program.Syntax.{Conjunct, holds, points, segment, tree, choose, Level, level, Conjuncts, none, also}
+use Rattle.sf_core.specs.Program.Syntax.{Conjunct, holds, points, segment, doubly, tree, choose, Level, level, Conjuncts, none, also}
 use Rattle.sf_foot.specs.declared.known.Known.{Known}
 use Rattle.sf_foot.specs.Checked.Known.{Grows, IsWithin, is_told}
 use Rattle.sf_foot.specs.Checked.Taking.{AreReady, IsReadyNow, TestIsKnown}
@@ -78,6 +78,8 @@ module _ {E : Type 0} where
     next-more k l m (holds p (Differ x y)) h = (more-known k l m x h.0, more-known k l m y h.1)
     next-more k l m (points p x fs) h = more-known k l m x h
     next-more k l m (segment p next x y) h = (more-known k l m x h.0, more-known k l m y h.1)
+    next-more k l m (doubly p next back x b z y) h =
+        (more-known k l m x h.0, more-known k l m b h.1, more-known k l m z h.2, more-known k l m y h.3)
     next-more k l m (tree p left right x) h = more-known k l m x h
     next-more k l m (choose p t this that) h =
         (λ n o. m n (h.0 n o), inside-more k l m this h.1, inside-more k l m that h.2)

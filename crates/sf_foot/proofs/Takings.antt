@@ -19,15 +19,16 @@ use Rattle.sf_core.specs.declared.assertion.Test.{Test}
 use Rattle.sf_core.specs.Assertions.Determined.{is_in_fields, is_learned, is_learned_in}
 use Rattle.sf_core.specs.Assertions.Sat.{HasFields, IsTrueOf, SameOutside, operand}
 use Rattle.sf_core.specs.Assertions.Scopes.{is_made_by}
-use Rattle.sf_core.specs.Program.Syntax.{Conjunct, holds, points, segment, tree, choose, Level, level, Conjuncts, none, also}
+use Rattle.sf_core.specs.Program.Syntax.{Conjunct, holds, points, segment, doubly, tree, choose, Level, level, Conjuncts, none, also}
 use Rattle.sf_heap.specs.Cells.{Cells, FieldValues, cell_of}
 use Rattle.sf_foot.specs.declared.known.Known.{Known}
 use Rattle.sf_foot.specs.declared.known.Layer.{Layer}
 use Rattle.sf_foot.specs.Checked.Known.{Agrees, Grows, Learns, found_in, found_within, is_told, told, told_of}
 use Rattle.sf_foot.specs.Checked.Taking.{AllTake, ConjunctsLeft, LevelTakes, OneTakes, Overflows, Takes}
-use Rattle.sf_foot.specs.Checked.Walks.{SegmentWalk, TreesWalk, WalksOn, end, cell, none as no_roots, leaf, node}
+use Rattle.sf_foot.specs.Checked.Walks.{DoubleWalk, SegmentWalk, TreesWalk, WalksOn, empty, linked, end, cell, none as no_roots, leaf, node}
 use Rattle.sf_foot.proofs.Knowing.{agrees-before, grows-none, grows-then, told-operand}
 use Rattle.sf_foot.proofs.Ready.{ready-rest}
+use Rattle.sf_foot.proofs.Walked.{double-agree}
 
 -- what is taken by the one and then by the other
 abbrev Both : ((ℕ → Value) → List ℕ → Type 0) → ((ℕ → Value) → List ℕ → Type 0) → (ℕ → Value) → List ℕ → Type 0
@@ -87,6 +88,18 @@ segment-unique heap next to from xs ys (cell o a here rest p g w k) (cell u b th
     let also : here ≡ there = same_Some here there (sym g ∙ ap (get heap) same ∙ h) in
     k ∙ ap₂ ◌∷◌ same (segment-unique heap next to (slice_index_or there next.0 nil) rest others
     (subst (λ c. SegmentWalk heap next to (slice_index_or c next.0 nil) rest) also w) d) ∙ sym l
+
+double-unique : (heap : Cells) (next back : FieldId) (last to before from : Value) (xs ys : List ℕ)
+    → DoubleWalk heap next back last to before from xs → DoubleWalk heap next back last to before from ys → xs ≡ ys
+double-unique heap next back last to before from xs ys (empty e b i) (empty f c j) = i ∙ sym j
+double-unique heap next back last to before from xs ys (empty e b i) (linked o a here rest p g m w k) = absurd (o e)
+double-unique heap next back last to before from xs ys (linked o a here rest p g m w k) (empty e b i) = absurd (o e)
+double-unique heap next back last to before from xs ys (linked o a here rest p g m w k)
+    (linked u b there others q h n d l) =
+    let same = loc-is a b (sym p ∙ q) in
+    let also : here ≡ there = same_Some here there (sym g ∙ ap (get heap) same ∙ h) in
+    k ∙ ap₂ ◌∷◌ same (double-unique heap next back last to from (slice_index_or there next.0 nil) rest others
+    (subst (λ c. DoubleWalk heap next back last to from (slice_index_or c next.0 nil) rest) also w) d) ∙ sym l
 
 trees-unique : (heap : Cells) (left right : FieldId) (roots : List Value) (xs ys : List ℕ)
     → TreesWalk heap left right roots xs → TreesWalk heap left right roots ys → xs ≡ ys
@@ -197,6 +210,34 @@ module _ {E : Type 0} (heap : Cells) (val : E → Value) where
       e,
     );
   }
+
+  pub takes-double : (p : Place) (next back : FieldId) (x b l y : Operand E) (v before last w : Value) (a : Known)
+      (old new : List ℕ)
+      → told_of val a x ≡ Some v → told_of val a b ≡ Some before → told_of val a l ≡ Some last → told_of val a y ≡ Some w
+      → WalksOn (DoubleWalk heap next back last w before v) old new
+      → Takes (OneTakes heap (doubly p next back x b l y) val) (λ n. false) a a old new
+  takes-double p next back x b l y v before last w a old new from previous ends to h = record {
+    locations = h.locations;
+    grew = h.grew;
+    grows = grows-none a (λ n. false) (λ n e. absurd (false≢true e));
+    all = λ s e. double-agree (sym (told-operand val a x v s e from)) (sym (told-operand val a b before s e previous))
+        (sym (told-operand val a l last s e ends)) (sym (told-operand val a y w s e to)) h.walked;
+    only = λ s ls e k. (
+      double-unique heap next back last w before v ls h.locations
+          (double-agree (told-operand val a x v s e from) (told-operand val a b before s e previous)
+          (told-operand val a l last s e ends) (told-operand val a y w s e to) k) h.walked,
+      e,
+    );
+  }
+
+  pub overflows-double : (p : Place) (next back : FieldId) (x b l y : Operand E) (v before last w : Value)
+      (a : Known) (old : List ℕ)
+      → told_of val a x ≡ Some v → told_of val a b ≡ Some before → told_of val a l ≡ Some last → told_of val a y ≡ Some w
+      → ((ls : List ℕ) → DoubleWalk heap next back last w before v ls → len heap < length (old ++ ls))
+      → Overflows (OneTakes heap (doubly p next back x b l y) val) heap a old
+  overflows-double p next back x b l y v before last w a old from previous ends to h = λ s ls e k. h ls
+      (double-agree (told-operand val a x v s e from) (told-operand val a b before s e previous)
+      (told-operand val a l last s e ends) (told-operand val a y w s e to) k)
 
   pub takes-tree : (p : Place) (left right : FieldId) (x : Operand E) (v : Value) (a : Known) (old new : List ℕ)
       → told_of val a x ≡ Some v → WalksOn (TreesWalk heap left right (v ∷ [])) old new

@@ -6,11 +6,11 @@ use Rattle.sf_base.specs.declared.place.Place.{Place}
 use Rattle.sf_core.specs.declared.assertion.Operand.{Operand}
 use Rattle.sf_core.specs.declared.assertion.Test.{Test}
 use Rattle.sf_core.specs.declared.command.Expr.{Expr}
-use Rattle.sf_core.specs.declared.assertion.Conjunct.{Holds, Points, Segment, Tree, If}
-use Rattle.sf_core.specs.declared.assertion.Conjunct.TheVariants.{rolls-Holds, rolls-Points, rolls-Segment, rolls-Tree, rolls-If}
+use Rattle.sf_core.specs.declared.assertion.Conjunct.{Holds, Points, Segment, Doubly, Tree, If}
+use Rattle.sf_core.specs.declared.assertion.Conjunct.TheVariants.{rolls-Holds, rolls-Points, rolls-Segment, rolls-Doubly, rolls-Tree, rolls-If}
 use Rattle.sf_core.specs.declared.assertion.Conjunct.TheFolds.{fold-roll-Conjunct, fold_out-Level}
 use Rattle.sf_core.specs.declared.assertion.Level.{Level as CodeLevel, out-Level}
-use Rattle.sf_core.specs.Program.Syntax.{Conjunct, holds, points, segment, tree, choose, Level, level}
+use Rattle.sf_core.specs.Program.Syntax.{Conjunct, holds, points, segment, doubly, tree, choose, Level, level}
 use Rattle.sf_core.specs.Program.View.{conjuncts, conjunct_of, level_of, conjunct_step, level_step}
 
 pub view-holds : (p : Place) (t : Test (Operand Expr)) → conjunct_of {E = Expr} (Holds p t) ≡ holds p t
@@ -25,6 +25,11 @@ view-points p x v = ap (conjunct_of {E = Expr}) (sym (rolls-Points p x v))
 pub view-segment : (p : Place) (f : FieldId) (x y : Operand Expr)
     → conjunct_of {E = Expr} (Segment p f x y) ≡ segment p f x y
 view-segment p f x y = ap (conjunct_of {E = Expr}) (sym (rolls-Segment p f x y))
+    ∙ fold-roll-Conjunct Expr (Conjunct Expr) (Level Expr) conjunct_step level_step _
+
+pub view-doubly : (p : Place) (f g : FieldId) (x b l y : Operand Expr)
+    → conjunct_of {E = Expr} (Doubly p f g x b l y) ≡ doubly p f g x b l y
+view-doubly p f g x b l y = ap (conjunct_of {E = Expr}) (sym (rolls-Doubly p f g x b l y))
     ∙ fold-roll-Conjunct Expr (Conjunct Expr) (Level Expr) conjunct_step level_step _
 
 pub view-tree : (p : Place) (l r : FieldId) (x : Operand Expr)

@@ -7,13 +7,22 @@ use Rattle.sf_base.specs.declared.ids.FieldId.{FieldId}
 use Rattle.sf_base.specs.declared.value.Value.{Value}
 use Rattle.sf_base.specs.declared.value.Value.TheVariants.{Nil as nil, Int as int, Loc as loc}
 use Rattle.sf_heap.specs.Cells.{Cells, FieldValues}
-use Rattle.sf_foot.specs.Checked.Walks.{SegmentWalk, end, cell, TreesWalk, none as no_roots, leaf, node}
-use Rattle.sf_core.proofs.Assertions.Sat.{value-which}
+use Rattle.sf_foot.specs.Checked.Walks.{DoubleWalk, empty, linked, SegmentWalk, end, cell, TreesWalk, none as no_roots, leaf, node}
+use Rattle.sf_core.proofs.Assertions.Values.{value-which}
+use Rattle.sf_foot.proofs.Walking.{double-after}
 
 -- a walk is the only one, or each is at least so long
 abbrev pub Walked : (walk : List ℕ → Type 0) (long : ℕ) → Type 0
 Walked walk long = ((ls : List ℕ) × walk ls × ((ms : List ℕ) → walk ms → ms ≡ ls))
     ⊎ ((ms : List ℕ) → walk ms → long ≤ length ms)
+
+-- a walk that leads back, between other values that are the same
+pub double-agree : {heap : Cells} {next back : FieldId} {last to before from last2 to2 before2 from2 : Value}
+    {ls : List ℕ} → from ≡ from2 → before ≡ before2 → last ≡ last2 → to ≡ to2
+    → DoubleWalk heap next back last to before from ls → DoubleWalk heap next back last2 to2 before2 from2 ls
+double-agree {heap} {next} {back} {last} {to} {before2 = before2} {from2 = from2} {ls = ls} f b l t d =
+    subst₂ (λ x y. DoubleWalk heap next back x y before2 from2 ls) l t
+    (subst₂ (λ x y. DoubleWalk heap next back last to x y ls) b f d)
 
 -- one cell before a walk
 walk-more : (walk rest : List ℕ → Type 0) (l long : ℕ) → ((ls : List ℕ) → rest ls → walk (l ∷ ls))
@@ -72,6 +81,57 @@ module _ (heap : Cells) where
     pub walk-segment : (long : ℕ) (from : Value) → Walked (SegmentWalk heap next to from) long
     walk-segment zero from = inr (λ ms m. omega arith)
     walk-segment (suc long) from = segment-step long (walk-segment long) from (value-which from to)
+
+  module _ (next back : FieldId) (last to : Value) where
+    double-ends : (before from : Value) (ms : List ℕ) → from ≡ to → DoubleWalk heap next back last to before from ms
+        → (before ≡ last) × (ms ≡ [])
+    double-ends before from ms e (empty f b n) = (b, n)
+    double-ends before from ms e (linked o a here rest p g k w n) = absurd (o e)
+
+    double-stuck : (before from : Value) (ms : List ℕ) → from ≢ to
+        → ((l : ℕ) (here : FieldValues) → from ≡ loc l → get heap l ≡ Some here → ⊥)
+        → DoubleWalk heap next back last to before from ms → ⊥
+    double-stuck before from ms o out (empty f b n) = o f
+    double-stuck before from ms o out (linked u a here rest p g k w n) = out a here p g
+
+    double-cell : (long : ℕ) → ((before v : Value) → Walked (DoubleWalk heap next back last to before v) long)
+        → (before : Value) (l : ℕ) (here : FieldValues) → loc l ≢ to → get heap l ≡ Some here
+        → (slice_index_or here back.0 nil ≡ before) ⊎ (slice_index_or here back.0 nil ≢ before)
+        → Walked (DoubleWalk heap next back last to before (loc l)) (suc long)
+    double-cell long walk before l here o g (inl k) = walk-more (DoubleWalk heap next back last to before (loc l))
+        (DoubleWalk heap next back last to (loc l) (slice_index_or here next.0 nil)) l long
+        (λ ls w. linked o l here ls refl g k w refl)
+        (λ ms m. (double-after heap next back last to before (loc l) l here ms o refl g m).1)
+        (walk (loc l) (slice_index_or here next.0 nil))
+    double-cell long walk before l here o g (inr k) =
+        inr (λ ms m. absurd (k (double-after heap next back last to before (loc l) l here ms o refl g m).0))
+
+    double-end : (long : ℕ) (before from : Value) → from ≡ to → (before ≡ last) ⊎ (before ≢ last)
+        → Walked (DoubleWalk heap next back last to before from) long
+    double-end long before from e (inl b) = inl ([], empty e b refl, λ ms m. (double-ends before from ms e m).1)
+    double-end long before from e (inr b) = inr (λ ms m. absurd (b (double-ends before from ms e m).0))
+
+    double-step : (long : ℕ) → ((before v : Value) → Walked (DoubleWalk heap next back last to before v) long)
+        → (before from : Value) → (from ≡ to) ⊎ (from ≢ to)
+        → Walked (DoubleWalk heap next back last to before from) (suc long)
+    double-step long walk before from (inl e) = double-end (suc long) before from e (value-which before last)
+    double-step long walk before nil (inr o) =
+        inr (λ ms m. absurd (double-stuck before nil ms o (λ l here e g. cc) m))
+    double-step long walk before (int i) (inr o) =
+        inr (λ ms m. absurd (double-stuck before (int i) ms o (λ l here e g. cc) m))
+    double-step long walk before (loc l) (inr o) = go (get heap l) refl
+      where
+        go : (c : Option FieldValues) → get heap l ≡ c
+            → Walked (DoubleWalk heap next back last to before (loc l)) (suc long)
+        go None g = inr (λ ms m. absurd (double-stuck before (loc l) ms o
+            (λ k here e h. let same : l ≡ k = cc in none-some here (sym g ∙ ap (get heap) same ∙ h)) m))
+        go (Some here) g = double-cell long walk before l here o g
+            (value-which (slice_index_or here back.0 nil) before)
+
+    pub walk-double : (long : ℕ) (before from : Value)
+        → Walked (DoubleWalk heap next back last to before from) long
+    walk-double zero before from = inr (λ ms m. omega arith)
+    walk-double (suc long) before from = double-step long (walk-double long) before from (value-which from to)
 
   module _ (left right : FieldId) where
     trees-end : (ms : List ℕ) → TreesWalk heap left right [] ms → ms ≡ []

@@ -4,7 +4,7 @@ ghost use Rattle.std.specs.Prelude.{◌≡◌, ℕ, false, map, IfOk, IsTrue};
 ghost use Rattle.sf_base.specs.declared.place.Place.{Place};
 ghost use Rattle.sf_core.specs.Assertions.Determined.{is_in_fields, is_learned, is_learned_in};
 ghost use Rattle.sf_core.specs.Assertions.Sat.{IsTrueOf, operand, value};
-ghost use Rattle.sf_core.specs.Program.Syntax.{holds, points, segment, tree};
+ghost use Rattle.sf_core.specs.Program.Syntax.{doubly, holds, points, segment, tree};
 ghost use Rattle.sf_core.specs.Program.View.{conjunct_of, conjuncts, level_of};
 ghost use Rattle.sf_foot.specs.Checked.Known.{Learns, Refutes};
 ghost use Rattle.sf_foot.specs.Checked.Taking.{AllTake, AreReady, BranchIsReady, IsReadyNow, LevelTakes, OneTakes, Overflows, Takes};
@@ -12,7 +12,7 @@ ghost use Rattle.sf_foot.specs.Variables.{value_of};
 
 use crate::known::Known;
 use crate::vars::Vars;
-use crate::walks::{walk_segment, walk_tree};
+use crate::walks::{Ends, walk_double, walk_segment, walk_tree};
 use sf_base::{FieldId, Value};
 use sf_core::{Conjunct, Expr, Level, Operand, Test};
 use sf_heap::Heap;
@@ -70,6 +70,10 @@ fn take_one(
         Conjunct::Points(_, root, fields) => take_cell(heap, vars, *root, fields, known, found),
         Conjunct::Segment(_, next, from, to) => {
             take_segment(heap, vars, *next, *from, *to, known, found)
+        }
+        Conjunct::Doubly(_, next, back, from, before, last, to) => {
+            let ends = (*from, *before, *last, *to);
+            take_double(heap, vars, *next, *back, ends, known, found)
         }
         Conjunct::Tree(_, left, right, root) => {
             take_tree(alloc, heap, vars, *left, *right, *root, known, found)
@@ -184,6 +188,48 @@ fn take_segment(
         return Ok(false);
     };
     walk_segment(heap, next, first, end, found)
+}
+
+/// Appends the locations of a doubly linked segment's cells, of which it is told where it begins, what
+/// is before it, where its last cell is, and where it ends.
+fn take_double(
+    heap: &Heap,
+    vars: &Vars,
+    next: FieldId,
+    back: FieldId,
+    ends: (Operand<Expr>, Operand<Expr>, Operand<Expr>, Operand<Expr>),
+    known: &Known,
+    found: &mut Vec<u64>,
+) -> Result<bool, AllocError>
+    requires { (p : Place) → IsReadyNow known.now (doubly p next back ends.0 ends.1 ends.2 ends.3) }
+    ensures yes { IfOk result (λ b. IsTrue b → (p : Place) → Takes
+        (OneTakes heap.now (doubly p next back ends.0 ends.1 ends.2 ends.3)
+        (value (value_of vars.now)))
+        (λ n. false) known.now known.now found.old.items found.new.items) }
+    ensures no { IfOk result (λ b. b ≡ false → (p : Place) → Overflows
+        (OneTakes heap.now (doubly p next back ends.0 ends.1 ends.2 ends.3)
+        (value (value_of vars.now)))
+        heap.now known.now found.old.items) }
+{
+    let Some(from) = known.value(vars, ends.0) else {
+        return Ok(false);
+    };
+    let Some(before) = known.value(vars, ends.1) else {
+        return Ok(false);
+    };
+    let Some(last) = known.value(vars, ends.2) else {
+        return Ok(false);
+    };
+    let Some(to) = known.value(vars, ends.3) else {
+        return Ok(false);
+    };
+    let ends = Ends {
+        from,
+        before,
+        last,
+        to,
+    };
+    walk_double(heap, next, back, ends, found)
 }
 
 /// Appends the locations of a tree's cells.

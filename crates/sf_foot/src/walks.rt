@@ -2,7 +2,7 @@
 
 ghost use Rattle.std.specs.Prelude.{◌≡◌, ◌↔◌, ◌<◌, ◌++◌, length, ℕ, List, [], ◌∷◌, false, IfOk, IsTrue};
 ghost use Rattle.std.specs.FinMap as map;
-ghost use Rattle.sf_foot.specs.Checked.Walks.{SegmentWalk, TreesWalk, WalksOn};
+ghost use Rattle.sf_foot.specs.Checked.Walks.{DoubleWalk, SegmentWalk, TreesWalk, WalksOn};
 
 use crate::known::is_same;
 use sf_base::{FieldId, Value};
@@ -39,6 +39,59 @@ pub(crate) fn walk_segment(
         at = cell.get(next);
     }
     Ok(true)
+}
+
+/// Where a doubly linked segment begins and ends.
+#[derive(Clone, Copy)]
+pub(crate) struct Ends {
+    /// Where it begins.
+    pub(crate) from: Value,
+    /// What its first cell leads back to.
+    pub(crate) before: Value,
+    /// Where its last cell is.
+    pub(crate) last: Value,
+    /// Where it ends.
+    pub(crate) to: Value,
+}
+
+/// Appends the locations of a doubly linked segment's cells, from the first on. It stops with `false`
+/// where a cell isn't there or leads back to another value than that before it, where the last one
+/// is elsewhere, and where there are more locations than cells, so that one comes twice.
+pub(crate) fn walk_double(
+    heap: &Heap,
+    next: FieldId,
+    back: FieldId,
+    ends: Ends,
+    found: &mut Vec<u64>,
+) -> Result<bool, AllocError>
+    ensures yes { IfOk result (λ b. IsTrue b
+        → WalksOn (DoubleWalk heap.now next back ends.last ends.to ends.before ends.from)
+        found.old.items found.new.items) }
+    ensures no { IfOk result (λ b. b ≡ false
+        → ((ls : List ℕ) → DoubleWalk heap.now next back ends.last ends.to ends.before ends.from ls
+        → map.len heap.now < length (found.old.items ++ ls))) }
+{
+    let mut before = ends.before;
+    let mut at = ends.from;
+    'walk: while !is_same(at, ends.to) {
+        let Value::Loc(l) = at else {
+            return Ok(false);
+        };
+        let Some(here) = heap.get(l) else {
+            return Ok(false);
+        };
+        let leads = here.get(back);
+        if !is_same(leads, before) {
+            return Ok(false);
+        }
+        if found.len() >= heap.len() {
+            return Ok(false);
+        }
+        found.push(l)?;
+        before = at;
+        at = here.get(next);
+    }
+    Ok(is_same(before, ends.last))
 }
 
 /// Appends the locations of a tree's cells, each before those of its left and then its right field.

@@ -1,4 +1,4 @@
-//! What is looked for, from the variable 0 on.
+//! What is looked for, from the variable 0 on; the variable 1 is a last cell.
 
 use sf_base::{FieldId, Place, Var};
 use sf_core::{Assertion, Conjunct, Expr, Level, Occurrence, Operand, Scope};
@@ -12,6 +12,11 @@ const SECOND: FieldId = FieldId(1);
 
 const ROOT: Operand<Expr> = Operand::Known(Expr::Var(Occurrence {
     var: Var::Own(0),
+    place: AT,
+}));
+
+const LAST: Operand<Expr> = Operand::Known(Expr::Var(Occurrence {
+    var: Var::Own(1),
     place: AT,
 }));
 
@@ -29,6 +34,13 @@ fn assertion(alloc: Global, count: u32, conjuncts: Vec<Conjunct<Expr>>) -> Asser
 /// A list up to nil.
 pub fn list(alloc: Global) -> Result<Assertion, AllocError> {
     let one = Conjunct::Segment(AT, FIRST, ROOT, Operand::Known(Expr::Nil));
+    Ok(assertion(alloc, 0, vec![in alloc; one]?))
+}
+
+/// A doubly linked list up to nil, before whose first cell its last one stands.
+pub fn double(alloc: Global) -> Result<Assertion, AllocError> {
+    let nil = Operand::Known(Expr::Nil);
+    let one = Conjunct::Doubly(AT, FIRST, SECOND, ROOT, LAST, LAST, nil);
     Ok(assertion(alloc, 0, vec![in alloc; one]?))
 }
 

@@ -45,6 +45,30 @@ pub fn listed(alloc: Global, count: u32, step: u32) -> Result<Heap, AllocError> 
     Ok(heap)
 }
 
+/// Where the last cell of a doubly linked list leads.
+#[derive(Clone, Copy)]
+pub struct LastLinks {
+    /// On.
+    pub next: Value,
+    /// Back.
+    pub back: Value,
+}
+
+/// A doubly linked list from the location 1 on, in the order of the locations. Its first cell leads
+/// back to the last one.
+pub fn doubled(alloc: Global, count: u32, last: LastLinks) -> Result<Heap, AllocError> {
+    let mut heap = Heap::new(alloc);
+    for i in 0..count {
+        let before = if i == 0 { count } else { i };
+        let (mut next, mut back) = (Value::Loc(i as u64 + 2), Value::Loc(before as u64));
+        if i + 1 == count {
+            (next, back) = (last.next, last.back);
+        }
+        put(alloc, &mut heap, i as u64 + 1, next, back)?;
+    }
+    Ok(heap)
+}
+
 /// A tree from the location 1 on, balanced.
 pub fn rooted(alloc: Global, count: u32) -> Result<Heap, AllocError> {
     let mut heap = Heap::new(alloc);

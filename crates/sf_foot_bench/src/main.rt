@@ -9,8 +9,8 @@
 mod assertions;
 mod heaps;
 
-use crate::assertions::{cells, list, tree};
-use crate::heaps::{chained, listed, rooted};
+use crate::assertions::{cells, double, list, tree};
+use crate::heaps::{LastLinks, chained, doubled, listed, rooted};
 use sf_base::Value;
 use sf_core::Assertion;
 use sf_foot::{Vars, footprint};
@@ -34,24 +34,50 @@ fn wanted(rt: &HostRuntime) -> io::Result<(String, u32)> {
     Ok((case, count))
 }
 
+/// The heap of a case with a doubly linked list whose last cell leads on to that value, and the
+/// assertion that is looked for. Where the links aren't right it leads back to nil.
+fn made_double(
+    alloc: Global,
+    count: u32,
+    next: Value,
+    right: bool,
+) -> Result<(Heap, Assertion), AllocError> {
+    let back = if right {
+        Value::Loc(count.saturating_sub(1) as u64)
+    } else {
+        Value::Nil
+    };
+    let heap = doubled(alloc, count, LastLinks { next, back })?;
+    Ok((heap, double(alloc)?))
+}
+
 /// The heap of a case and the assertion that is looked for.
 fn made(alloc: Global, case: &str, count: u32) -> Result<(Heap, Assertion), AllocError> {
     match case {
         "random" => Ok((listed(alloc, count, 531_441)?, list(alloc)?)),
         "balanced" => Ok((rooted(alloc, count)?, tree(alloc)?)),
         "chain" => Ok((chained(alloc, count)?, tree(alloc)?)),
+        "double" => made_double(alloc, count, Value::Nil, true),
+        "ring" => made_double(alloc, count, Value::Loc(1), true),
+        "wrong" => made_double(alloc, count, Value::Nil, false),
         "cells" => Ok((listed(alloc, count, 1)?, cells(alloc, count)?)),
         _ => Ok((listed(alloc, count, 1)?, list(alloc)?)),
     }
 }
 
-/// How many locations the footprint has, if there is one. The variable 0 is the location 1.
-fn found(alloc: Global, heap: &Heap, a: &Assertion) -> Result<Option<usize>, AllocError> {
+/// How many locations the footprint has, if there is one. The variable 0 is the location 1, and the
+/// variable 1 the location of that number.
+fn found(
+    alloc: Global,
+    heap: &Heap,
+    last: u32,
+    a: &Assertion,
+) -> Result<Option<usize>, AllocError> {
     let Ok(ordered) = order(alloc, a) else {
         return Ok(None);
     };
     let vars = Vars {
-        own: vec![in alloc; Value::Loc(1)]?,
+        own: vec![in alloc; Value::Loc(1), Value::Loc(last as u64)]?,
         shared: Vec::new(alloc),
     };
     let at = footprint(alloc, &ordered, &vars, heap)?;
@@ -69,7 +95,7 @@ fn main(rt: HostRuntime) -> ExitCode {
     if case.as_str() == "heap" {
         return ExitCode::from(0);
     }
-    let Ok(locations) = found(rt.alloc(), &heap, &a) else {
+    let Ok(locations) = found(rt.alloc(), &heap, count, &a) else {
         return ExitCode::from(1);
     };
     match println!(rt; "{locations:?}") {

@@ -49,6 +49,7 @@ word_kind text =
     else if bytes_eq text (codes "nil") then k.Nil
     else if bytes_eq text (codes "resource") then k.Resource
     else if bytes_eq text (codes "then") then k.Then
+    else if bytes_eq text (codes "dll") then k.Dll
     else if bytes_eq text (codes "tree") then k.Tree
     else if bytes_eq text (codes "true") then k.True
     else if bytes_eq text (codes "when") then k.When

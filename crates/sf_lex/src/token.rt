@@ -35,6 +35,8 @@ pub enum Kind {
     Resource,
     /// `then`
     Then,
+    /// `dll`
+    Dll,
     /// `tree`
     Tree,
     /// `true`

@@ -22,6 +22,7 @@ pub fn word_kind(text: &[u8]) -> Kind
         b"nil" => Kind::Nil,
         b"resource" => Kind::Resource,
         b"then" => Kind::Then,
+        b"dll" => Kind::Dll,
         b"tree" => Kind::Tree,
         b"true" => Kind::True,
         b"when" => Kind::When,

@@ -1,11 +1,13 @@
 -- Drop: an empty segment or tree has no cell.
 use Rattle.std.proofs.Common.{◌≡◌, ℕ, Bool, true, false, cond, [], ◌∷◌, Option, Some, None, refl, ap, arith}
 use Rattle.std.proofs.lemmas.Option.{option_and_then_some}
+use Rattle.sf_base.proofs.Bools.{and-left}
 use Rattle.sf_base.proofs.HeapSplits.{star-drop_left, star-map_left}
 use Rattle.sf_base.specs.declared.ids.FieldId.{FieldId}
 use Rattle.sf_base.specs.declared.value.Value.{Value}
 use Rattle.sf_base.specs.declared.value.Value.TheVariants.{Nil as nil}
 use Rattle.sf_base.specs.HeapStore.{Heap, IsEmpty}
+use Rattle.sf_core.proofs.Assertions.DoubleSegments.{dseg-empty}
 use Rattle.sf_core.proofs.Assertions.Segments.{seg-empty}
 use Rattle.sf_core.proofs.Assertions.Trees.{tree-from_nil}
 use Rattle.sf_core.specs.declared.fields.Links.{Links}
@@ -16,17 +18,25 @@ use Rattle.sf_sym.specs.Checked.Lemmas.AtomLists.{atoms-out, without-all}
 use Rattle.sf_sym.specs.Below.{AllInAtom, IsBelow}
 use Rattle.sf_sym.specs.Cells.{atom_at, without}
 use Rattle.sf_sym.specs.declared.atom.Atom.{Atom}
-use Rattle.sf_sym.specs.declared.atom.Atom.TheVariants.{Points, Ls, Tree}
+use Rattle.sf_sym.specs.declared.atom.Atom.TheVariants.{Points, Ls, Tree, Dll}
 use Rattle.sf_sym.specs.declared.term.Term.TheVariants.{Nil}
 use Rattle.sf_sym.specs.Goal.{at_state}
-use Rattle.sf_sym.specs.Holds.{term_value, SegAlong, TreeAlong, AtomHolds}
+use Rattle.sf_sym.specs.Holds.{term_value, DsegAlong, SegAlong, TreeAlong, AtomHolds}
 use Rattle.sf_sym.specs.Checked.Laws.{HoldsAsBefore, KeptWith}
 use Rattle.sf_sym.specs.Checked.Lemmas.{same_term_is}
+use Rattle.sf_sym.specs.Tests.{same_term}
 
 seg_along-empty : (next : Option FieldId) (from to : Value) (heap : Heap) → from ≡ to
     → SegAlong next from to heap → IsEmpty heap
 seg_along-empty None from to heap e s = absurd s
 seg_along-empty (Some next) from to heap e s = seg-empty e s
+
+-- a doubly linked one has its last cell before it then
+pub dseg_along-empty : (next back : Option FieldId) (from before last to : Value) (heap : Heap) → from ≡ to
+    → DsegAlong next back from before last to heap → (before ≡ last) × IsEmpty heap
+dseg_along-empty None back from before last to heap e s = absurd s
+dseg_along-empty (Some next) None from before last to heap e s = absurd s
+dseg_along-empty (Some next) (Some back) from before last to heap e s = dseg-empty e s
 
 tree_along-empty : (left right : Option FieldId) (root : Value) (heap : Heap) → root ≡ nil
     → TreeAlong left right root heap → IsEmpty heap
@@ -42,6 +52,9 @@ nothing-empty w links (Ls t u) heap i s =
     seg_along-empty links.tl (term_value w t) (term_value w u) heap (ap (term_value w) (same_term_is t u i)) s
 nothing-empty w links (Tree t) heap i s =
     tree_along-empty links.l links.r (term_value w t) heap (ap (term_value w) (same_term_is t Nil i)) s
+nothing-empty w links (Dll v p l u) heap i s =
+    (dseg_along-empty links.tl links.pv (term_value w v) (term_value w p) (term_value w l) (term_value w u) heap
+    (ap (term_value w) (same_term_is v u (and-left (same_term v u) (same_term p l) i))) s).1
 
 pub drop_keeps_goals : DropKeepsGoals
 unfolding DropKeepsGoals

@@ -1,30 +1,33 @@
--- Force: a segment or tree whose root is a constant, or a cell of another atom, has no cell, so its ends are the same.
+-- Force: a segment or tree whose root is a constant, or a cell of another atom, has no cell, so its ends are the same;
+-- a doubly linked segment that ends where it begins has its last cell before it.
 use Rattle.std.specs.Option.{option_and_then}
 use Rattle.std.specs.Prelude.{◌⊎◌}
-use Rattle.std.proofs.Common.{◌≡◌, ◌≢◌, ℕ, ◌==◌, Bool, true, false, ◌&&◌, not, List, [], ◌∷◌, Option, Some, refl, sym, ap, subst, inl, inr}
+use Rattle.std.proofs.Common.{◌≡◌, ◌≢◌, ℕ, ◌==◌, Bool, true, false, ◌&&◌, cond, not, List, [], ◌∷◌, Option, Some, None, refl, sym, ap, subst, inl, inr}
 use Rattle.std.proofs.lemmas.Bool.{or_cases}
-use Rattle.std.proofs.lemmas.Option.{cond_some, option_and_then_some}
+use Rattle.std.proofs.lemmas.Option.{cond_some, option_and_then_some, same_Some}
 use Rattle.sf_base.proofs.Bools.{and-right}
 use Rattle.sf_base.proofs.MapSplits.{union, splits-union}
 use Rattle.sf_base.proofs.Options.{option_map-some}
 use Rattle.sf_base.specs.declared.ids.Var.{Var}
 use Rattle.sf_base.specs.declared.value.Value.{Value}
 use Rattle.sf_base.specs.HeapStore.{Heap}
-use Rattle.sf_core.proofs.Assertions.Sat.{value-which}
+use Rattle.sf_core.proofs.Assertions.Values.{value-which}
 use Rattle.sf_core.specs.declared.fields.Links.{Links}
 use Rattle.sf_sym.specs.Checked.Lemmas.Keeping.{before-equal, follows-equal, kept-one}
 use Rattle.sf_sym.specs.Known.{forced_by, forced_pair, is_elsewhere}
+use Rattle.sf_normal.proofs.Dropping.{dseg_along-empty}
 use Rattle.sf_normal.specs.Checked.Laws.{ForceKeepsGoals}
+use Rattle.sf_sym.specs.Checked.Lemmas.{same_term_is}
 use Rattle.sf_sym.specs.Checked.Lemmas.Below.{forced-below}
 use Rattle.sf_sym.specs.Checked.Lemmas.AtomLists.{at-all, at-append, atoms-out, without-any}
-use Rattle.sf_sym.specs.Checked.Lemmas.Parts.{atoms-located, located-apart, seg_along-located, tree_along-located}
+use Rattle.sf_sym.specs.Checked.Lemmas.Parts.{atoms-located, dseg_along-located, located-apart, seg_along-located, tree_along-located}
 use Rattle.sf_sym.specs.Checked.Lemmas.States.{holds-parts}
 use Rattle.sf_sym.specs.Checked.Lemmas.Terms.{term-constant_no_location}
 use Rattle.sf_sym.specs.Checked.Lemmas.TwoHeaps.{in-at}
 use Rattle.sf_sym.specs.Below.{AllInAtom, IsBelow}
 use Rattle.sf_sym.specs.Cells.{atom_at, without}
 use Rattle.sf_sym.specs.declared.atom.Atom.{Atom}
-use Rattle.sf_sym.specs.declared.atom.Atom.TheVariants.{Points, Ls, Tree}
+use Rattle.sf_sym.specs.declared.atom.Atom.TheVariants.{Points, Ls, Tree, Dll}
 use Rattle.sf_sym.specs.declared.atom.Numbered.{Numbered}
 use Rattle.sf_sym.specs.declared.term.Term.{Term}
 use Rattle.sf_sym.specs.declared.term.Term.TheVariants.{Nil}
@@ -61,6 +64,32 @@ forced-value w links (Tree t) elsewhere both heap e s none =
     go (inr n) i =
         absurd (none (and-right (not (same_term t Nil)) elsewhere i)
         (tree_along-located links.l links.r (term_value w t) heap n s))
+forced-value w links (Dll v p l u) elsewhere both heap e s none =
+    go (same_term v u) refl (same_term p l) elsewhere e none
+  where
+    -- where its root is elsewhere, it ends where it begins
+    ends-same : (term_value w v ≡ term_value w u) ⊎ (term_value w v ≢ term_value w u)
+        → (IsLocationIn heap (term_value w v) → ⊥) → term_value w v ≡ term_value w u
+    ends-same (inl same) never = same
+    ends-same (inr n) never =
+        absurd (never
+        (dseg_along-located links.tl links.pv (term_value w v) (term_value w p) (term_value w l) (term_value w u) heap
+        n s).0)
+
+    go : (x : Bool) → same_term v u ≡ x → (y z : Bool)
+        → cond {A = Option (Term × Term)} x (cond y None (Some (p, l))) (cond z (Some (v, u)) None) ≡ Some both
+        → (z ≡ true → IsLocationIn heap (term_value w v) → ⊥) → term_value w both.0 ≡ term_value w both.1
+    go true i true z f never = absurd (cc)
+    go true i false z f never =
+        let is : (p, l) ≡ both = same_Some (p, l) both f in
+        subst (λ (k : Term × Term). term_value w k.0 ≡ term_value w k.1) is
+        (dseg_along-empty links.tl links.pv (term_value w v) (term_value w p) (term_value w l) (term_value w u) heap
+        (ap (term_value w) (same_term_is v u i)) s).0
+    go false i y true f never =
+        let is : (v, u) ≡ both = same_Some (v, u) both f in
+        subst (λ (k : Term × Term). term_value w k.0 ≡ term_value w k.1) is
+        (ends-same (value-which (term_value w v) (term_value w u)) (never refl))
+    go false i y false f never = absurd (cc)
 
 -- the atom of that number is left out
 is-left_out : (a : ℕ) (t : Term) (apart : List (Term × Term)) (x : Numbered) → x.number == a ≡ true

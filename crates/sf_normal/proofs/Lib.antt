@@ -3,3 +3,4 @@ pub mod Dropping
 pub mod Forcing
 pub mod Splitting
 pub mod Unrolling
+pub mod UnrollingBack

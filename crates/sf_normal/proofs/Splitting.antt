@@ -6,7 +6,7 @@ use Rattle.sf_base.proofs.Bools.{and-left, and-right}
 use Rattle.sf_base.specs.declared.ids.Var.{Var}
 use Rattle.sf_base.specs.declared.value.Value.{Value}
 use Rattle.sf_base.specs.HeapStore.{Heap}
-use Rattle.sf_core.proofs.Assertions.Sat.{value-which}
+use Rattle.sf_core.proofs.Assertions.Values.{value-which}
 use Rattle.sf_sym.specs.Checked.Lemmas.Keeping.{before-equal, before-same, follows-equal}
 use Rattle.sf_normal.specs.Checked.Laws.{SplitKeepsGoals}
 use Rattle.sf_sym.specs.Checked.Lemmas.TwoHeaps.{assumed_terms_are_below, differing_terms_may_be_assumed}

@@ -1,7 +1,8 @@
 -- Unroll: a segment or tree whose ends differ begins with a cell, and fresh symbols have the values of its links.
--- Names: `kind_child` is the goal that is left for a segment or a tree, `KIND-LAW` speaks of it.
+-- Names: `kind_child` is the goal that is left for a segment (`double` a doubly linked one) or a tree, `KIND-LAW` speaks
+-- of it.
 use Rattle.std.specs.Option.{option_map}
-use Rattle.std.proofs.Common.{◌≡◌, ℕ, ◌+◌, Bool, true, false, cond, List, [], ◌∷◌, ◌++◌, Option, Some, None, refl, sym, ◌∙◌, subst, arith}
+use Rattle.std.proofs.Common.{◌≡◌, ℕ, ◌+◌, Bool, true, false, cond, List, [], ◌∷◌, ◌++◌, Option, Some, None, refl, sym, ◌∙◌, subst, subst₂, arith}
 use Rattle.std.proofs.lemmas.Option.{option_and_then_some}
 use Rattle.sf_base.proofs.HeapSplits.{star-assoc_right, star-comm, star-map_left, star-map_right, star-of}
 use Rattle.sf_base.proofs.MapSplits.{splits-comm}
@@ -10,10 +11,12 @@ use Rattle.sf_base.specs.declared.ids.Var.{Var}
 use Rattle.sf_base.specs.declared.value.Value.{Value}
 use Rattle.sf_base.specs.declared.value.Value.TheVariants.{Loc as loc}
 use Rattle.sf_base.specs.HeapStore.{Heap, ◌⋆◌}
+use Rattle.sf_core.proofs.Assertions.DoubleSegments.{dseg-first}
 use Rattle.sf_core.proofs.Assertions.Segments.{seg-head}
 use Rattle.sf_core.proofs.Assertions.Trees.{tree-root}
+use Rattle.sf_core.specs.Assertions.Sat.{Dseg}
 use Rattle.sf_sym.specs.Checked.Lemmas.Keeping.{before-still, kept-one}
-use Rattle.sf_normal.specs.Knowledge.{unroll_one, unrolled_segment, unrolled_tree}
+use Rattle.sf_normal.specs.Knowledge.{unroll_one, unrolled_double, unrolled_segment, unrolled_tree}
 use Rattle.sf_normal.specs.Checked.Laws.{UnrollKeepsGoals}
 use Rattle.sf_sym.specs.Checked.Lemmas.AtomLists.{at-all, atoms-one_more, atoms-out}
 use Rattle.sf_sym.specs.Checked.Lemmas.Below.{below-symbol, below-value, put-all}
@@ -24,20 +27,20 @@ use Rattle.sf_sym.specs.Checked.Lemmas.Decided.{differ-in}
 use Rattle.sf_sym.specs.Below.{AllInAtom, AreBelow, IsBelow, SameBelow}
 use Rattle.sf_sym.specs.Cells.{apart_from_nil, atom_at, with_atom, with_cell, without}
 use Rattle.sf_sym.specs.declared.atom.Atom.{Atom}
-use Rattle.sf_sym.specs.declared.atom.Atom.TheVariants.{Points, Ls, Tree}
+use Rattle.sf_sym.specs.declared.atom.Atom.TheVariants.{Points, Ls, Tree, Dll}
 use Rattle.sf_sym.specs.declared.atom.Numbered.{Numbered}
 use Rattle.sf_sym.specs.declared.term.Term.{Term}
 use Rattle.sf_sym.specs.declared.term.Term.TheVariants.{Nil, Sym}
 use Rattle.sf_sym.specs.Fields.{put_term}
 use Rattle.sf_sym.specs.Goal.{Goal, at_state}
-use Rattle.sf_sym.specs.Holds.{term_value, SegAlong, TreeAlong, AtomHolds, AtomsHold}
+use Rattle.sf_sym.specs.Holds.{term_value, DsegAlong, SegAlong, TreeAlong, AtomHolds, AtomsHold}
 use Rattle.sf_sym.specs.HoldsIn.{HoldsIn}
 use Rattle.sf_sym.specs.Checked.Laws.{Follows, HoldsAsBefore, HoldsStill, KeptWith}
 use Rattle.sf_sym.specs.State.{State, with_symbols}
 use Rattle.sf_sym.specs.Tests.{differs}
 
 -- the state without the atom
-abbrev state_without : Goal → ℕ → State
+abbrev pub state_without : Goal → ℕ → State
 state_without goal a = record goal.state { atoms = without goal.state.atoms a }
 
 -- the goals that are left
@@ -46,6 +49,13 @@ segment_child goal a t u next =
     let rest = Sym goal.state.next_sym in
     at_state goal
     (with_atom (Ls rest u) (with_cell (with_symbols 1 (state_without goal a)) t ((next, rest) ∷ [])))
+
+abbrev double_child : Goal → ℕ → (t p l u : Term) → (next back : FieldId) → Goal
+double_child goal a t p l u next back =
+    let rest = Sym goal.state.next_sym in
+    at_state goal
+    (with_atom (Dll rest t l u)
+    (with_cell (with_symbols 1 (state_without goal a)) t (put_term next rest (put_term back p []))))
 
 abbrev tree_child : Goal → ℕ → Term → (left right : FieldId) → Goal
 tree_child goal a t left right =
@@ -58,7 +68,7 @@ tree_child goal a t left right =
 -- A goal at whose term there is a cell: it holds with other atoms and further symbols, and the term not nil
 module _ (goal : Goal) (t : Term) (below : AreBelow goal) (w v : ℕ → Value) (same : SameBelow goal.state.next_sym v w)
     (e : Var → Option Value) (free taken : Heap) (h : HoldsIn w goal e free taken) where
-  still-holds : (location : ℕ) → term_value v t ≡ loc location → (symbols number : ℕ) (atoms : List Numbered)
+  pub still-holds : (location : ℕ) → term_value v t ≡ loc location → (symbols number : ℕ) (atoms : List Numbered)
       → AtomsHold v goal.state.links atoms h.there.left
       → HoldsStill w goal e free taken (at_state goal (record goal.state {
         apart = goal.state.apart ++ apart_from_nil t;
@@ -146,6 +156,89 @@ segment_kept goal a t u left below at true d (Some next) tl e =
     kept-one HoldsAsBefore goal (segment_child goal a t u next) left e (segment-follows goal a t u next below b.0 b.1)
     (λ w e free taken h. before-still w goal (segment_child goal a t u next).state e free taken
     (segment-holds goal a t u next below b.0 b.1 at tl d w e free taken h))
+
+-- the goal that is left for a doubly linked segment
+double-follows : (goal : Goal) (a : ℕ) (t p l u : Term) (next back : FieldId) → AreBelow goal
+    → AllInAtom (IsBelow goal.state.next_sym) (Dll t p l u)
+    → Follows goal (double_child goal a t p l u next back)
+double-follows goal a t p l u next back below b =
+    let n = goal.state.next_sym in
+    let fresh = below-symbol (n + 1) n (omega arith) in
+    let root = later goal below 1 t b.0 in
+    record {
+      below = record {
+        state = record {
+          vars = later-vars goal below 1;
+          apart = later-apart goal below 1 t root;
+          atoms = more-below (n + 1) _ _
+              (more-below (n + 1) (without goal.state.atoms a) _ (later-others goal below 1 a) (
+                root,
+                put-all (IsBelow (n + 1)) next (Sym n) (put_term back p []) fresh
+                    (put-all (IsBelow (n + 1)) back p [] (later goal below 1 p b.1) tt),
+              ))
+              (fresh, root, later goal below 1 l b.2, later goal below 1 u b.3);
+          taken = later-taken goal below 1;
+        };
+        todo = later-todo goal below 1;
+      };
+      symbols = omega arith;
+      links = refl;
+      formed = λ f. f;
+    }
+
+double-holds : (goal : Goal) (a : ℕ) (t p l u : Term) (next back : FieldId) → AreBelow goal
+    → AllInAtom (IsBelow goal.state.next_sym) (Dll t p l u)
+    → atom_at goal.state.atoms a ≡ Some (Dll t p l u) → goal.state.links.tl ≡ Some next
+    → goal.state.links.pv ≡ Some back
+    → differs goal.state t u ≡ true
+    → (w : ℕ → Value) (e : Var → Option Value) (free taken : Heap) → HoldsIn w goal e free taken
+    → HoldsStill w goal e free taken (double_child goal a t p l u next back)
+double-holds goal a t p l u next back below b at tl pv d w e free taken h =
+    let n = goal.state.next_sym in
+    let links = goal.state.links in
+    let o = atoms-out w links goal.state.atoms a (Dll t p l u) h.there.left at h.there.first in
+    let along : Dseg next back (term_value w l) (term_value w u) (term_value w p) (term_value w t) o.left =
+    subst₂ (λ y z. DsegAlong y z (term_value w t) (term_value w p) (term_value w l) (term_value w u) o.left) tl pv
+    o.first in
+    let first = dseg-first (differ-in w goal e free taken h t u d) along in
+    let x = first.here next.0 in
+    let v = with_value n x w in
+    let same : SameBelow n v w = λ m i. value-below n x w m i in
+    let rest : v n ≡ x = value-here n x w in
+    let now = λ (k : Term) (i : IsBelow n k). below-value n v w same k i in
+    let root : term_value v t ≡ loc first.location = sym (now t b.0) ∙ first.is in
+    let fields = put-known (term_value v) next (Sym n) (put_term back p []) first.here (sym rest)
+    (put-known (term_value v) back p [] first.here (first.back_to ∙ now p b.1) tt) in
+    let cell : AtomHolds v links (Points t (put_term next (Sym n) (put_term back p []))) first.one =
+    (first.location, first.here, root, first.cell, fields) in
+    let behind : AtomHolds v links (Dll (Sym n) t l u) first.rest =
+    subst₂ (λ y z. DsegAlong y z (v n) (term_value v t) (term_value v l) (term_value v u) first.rest) (sym tl) (sym pv)
+    (subst₂ (λ y z. Dseg next back y z (term_value v t) (v n) first.rest) (now l b.2) (now u b.3)
+    (subst₂ (λ y z. Dseg next back (term_value w l) (term_value w u) y z first.rest) (now t b.0) (sym rest)
+    first.behind)) in
+    still-holds goal t below w v same e free taken h first.location root _ _ _
+    (atoms-one_more v links _ _ h.there.left
+    (star-map_right (λ part s. atoms-one_more v links (without goal.state.atoms a) _ part s)
+    (star-assoc_right (star-of o.splits (star-of (splits-comm first.splits) behind cell)
+    (others-stay w v goal below same e free taken h a o.right o.second)))))
+
+double_kept : (goal : Goal) (a : ℕ) (t p l u : Term) (left : List Goal) → AreBelow goal
+    → atom_at goal.state.atoms a ≡ Some (Dll t p l u)
+    → (d : Bool) → differs goal.state t u ≡ d
+    → (next back : Option FieldId) → goal.state.links.tl ≡ next → goal.state.links.pv ≡ back
+    →
+    cond d (option_map (λ s. at_state goal s ∷ []) (unrolled_double next back t p l u (state_without goal a))) None
+    ≡ Some left
+    → KeptWith goal left HoldsAsBefore
+double_kept goal a t p l u left below at false d next back tl pv e = absurd (cc)
+double_kept goal a t p l u left below at true d None back tl pv e = absurd (cc)
+double_kept goal a t p l u left below at true d (Some next) None tl pv e = absurd (cc)
+double_kept goal a t p l u left below at true d (Some next) (Some back) tl pv e =
+    let b = at-all (AllInAtom (IsBelow goal.state.next_sym)) goal.state.atoms a (Dll t p l u) at below.state.atoms in
+    let child = double_child goal a t p l u next back in
+    kept-one HoldsAsBefore goal child left e (double-follows goal a t p l u next back below b)
+    (λ w e free taken h. before-still w goal child.state e free taken
+    (double-holds goal a t p l u next back below b at tl pv d w e free taken h))
 
 -- the goal that is left for a tree
 tree-follows : (goal : Goal) (a : ℕ) (t : Term) (left right : FieldId) → AreBelow goal
@@ -251,3 +344,6 @@ unroll_keeps_goals a goal left shape row =
     go (Tree t) at e =
         tree_kept goal a t left shape.below at (differs goal.state t Nil) refl goal.state.links.l
         goal.state.links.r refl refl e
+    go (Dll t p l u) at e =
+        double_kept goal a t p l u left shape.below at (differs goal.state t u) refl goal.state.links.tl
+        goal.state.links.pv refl refl e

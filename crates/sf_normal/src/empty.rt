@@ -29,8 +29,9 @@ pub fn drop<'a>(mut goal: Goal<'a>, a: u32) -> Option<Goal<'a>>
 }
 
 /// force: two terms of the atom of that number, a segment or tree that can only be empty, are the
-/// same: its ends. `None` exactly where it is no such atom, or they are one term already. Memory is
-/// wanted only where they are two constants; an `Err` means that there is none.
+/// same: its ends, or where these are one term already, what stands before a doubly linked segment
+/// and its last cell. `None` exactly where it is no such atom, or all these are one term already.
+/// Memory is wanted only where they are two constants; an `Err` means that there is none.
 pub fn force<'a>(mut goal: Goal<'a>, a: u32) -> Result<Option<Goal<'a>>, AllocError>
     ensures { IfOk result (λ left. option_map (λ g. goal_of g ∷ []) left
         ≡ force_row (goal_of goal.entry) a) }

@@ -2,7 +2,7 @@
 
 ghost use Rattle.std.specs.Prelude.{◌≡◌, ◌∷◌, ◌+◌, ◌<◌, ◌^◌, [], IfOk};
 ghost use Rattle.std.specs.Option.{option_map};
-ghost use Rattle.sf_normal.specs.Knowledge.{unroll_row, unrolled_segment, unrolled_tree};
+ghost use Rattle.sf_normal.specs.Knowledge.{unroll_row, unrolled_double, unrolled_segment, unrolled_tree};
 ghost use Rattle.sf_sym.specs.Goal.{at_state, goal_of};
 
 use sf_sym::{Atom, FieldTerms, Goal, Term};
@@ -31,6 +31,7 @@ pub fn unroll<'a>(alloc: Global, mut goal: Goal<'a>, a: u32) -> Result<Option<Go
         Atom::Points(..) => Ok(None),
         Atom::Ls(t, u) => segment(alloc, goal, t, u),
         Atom::Tree(t) => tree(alloc, goal, t),
+        Atom::Dll(v, p, l, u) => double(alloc, goal, v, p, l, u),
     }
 }
 
@@ -78,5 +79,35 @@ fn tree<'a>(alloc: Global, mut goal: Goal<'a>, t: Term) -> Result<Option<Goal<'a
     goal.state.add_cell(t, fields)?;
     goal.state.add_atom(Atom::Tree(one))?;
     goal.state.add_atom(Atom::Tree(two))?;
+    Ok(Some(goal))
+}
+
+/// A cell at the first term, which leads back to the second, and a doubly linked segment from its
+/// link up to the fourth, whose last cell is the third.
+fn double<'a>(
+    alloc: Global,
+    mut goal: Goal<'a>,
+    v: Term,
+    p: Term,
+    l: Term,
+    u: Term,
+) -> Result<Option<Goal<'a>>, AllocError>
+    requires symbols { goal.state.next_sym + 1 < 2 ^ 32 }
+    requires atoms { goal.state.next_atom + 2 < 2 ^ 32 }
+    ensures { IfOk result (λ left. option_map goal_of left
+        ≡ option_map (at_state (goal_of goal.entry))
+        (unrolled_double goal.entry.state.links.tl goal.entry.state.links.pv v p l u
+        goal.entry.state)) }
+{
+    let links = goal.state.links();
+    let (Some(next), Some(back)) = (links.tl, links.pv) else {
+        return Ok(None);
+    };
+    let rest = goal.state.fresh_symbol();
+    let mut fields = FieldTerms::new(alloc);
+    fields.put(back, p)?;
+    fields.put(next, rest)?;
+    goal.state.add_cell(v, fields)?;
+    goal.state.add_atom(Atom::Dll(rest, v, l, u))?;
     Ok(Some(goal))
 }

@@ -86,6 +86,7 @@ abbrev mutual
   -- simple = "emp" | "(" assertion ")" | "if" ( "(" atest ")" | atest ) "then" assertion "else" assertion
   --        | aexpr "==" aexpr | aexpr "!=" aexpr | aexpr "|->" [ name ":" aexpr { "," name ":" aexpr } ]
   --        | ( "ls" | "lseg" ) "(" aexpr "," aexpr ")" | "list" "(" aexpr ")" | "tree" "(" aexpr ")"
+  --        | "dll" "(" aexpr "," aexpr "," aexpr "," aexpr ")"
   pub conjunct : s.Conjunct → List Leaf → List Leaf
   conjunct (s.emp p) r = k.Emp p ∷ r
   conjunct (s.group a) r = k.OpenRound ∷ assertion a (k.CloseRound ∷ r)
@@ -95,6 +96,9 @@ abbrev mutual
   conjunct (s.points x fs) r = operand x ∷ k.PointsTo ∷ maybe_fields fs r
   conjunct (s.ls p long x y) r = k.Ls p long ∷ k.OpenRound ∷ operand x ∷ k.Comma ∷ operand y ∷ k.CloseRound ∷ r
   conjunct (s.list p x) r = k.List p ∷ k.OpenRound ∷ operand x ∷ k.CloseRound ∷ r
+  conjunct (s.dll p x b l y) r =
+      k.Dll p ∷ k.OpenRound ∷ operand x ∷ k.Comma ∷ operand b ∷ k.Comma ∷ operand l ∷ k.Comma ∷ operand y
+      ∷ k.CloseRound ∷ r
   conjunct (s.tree p x) r = k.Tree p ∷ k.OpenRound ∷ operand x ∷ k.CloseRound ∷ r
 
   -- assertion = simple { "*" simple }

@@ -25,6 +25,7 @@ pub data Leaf : Type 0 where
   New : Leaf
   Resource : Place → Leaf
   Then : Leaf
+  Dll : Place → Leaf
   Tree : Place → Leaf
   True : Place → Leaf
   When : Leaf
@@ -72,6 +73,7 @@ leaf_of t.New n w = New
 leaf_of t.Nil n w = Expr (e.Nil w.place)
 leaf_of t.Resource n w = Resource w.place
 leaf_of t.Then n w = Then
+leaf_of t.Dll n w = Dll w.place
 leaf_of t.Tree n w = Tree w.place
 leaf_of t.True n w = True w.place
 leaf_of t.When n w = When
@@ -112,6 +114,7 @@ kind (Ls p true) = t.Lseg
 kind New = t.New
 kind (Resource p) = t.Resource
 kind Then = t.Then
+kind (Dll p) = t.Dll
 kind (Tree p) = t.Tree
 kind (True p) = t.True
 kind When = t.When

@@ -47,6 +47,37 @@ fn two_operands(tokens: &[Token]) -> Result<(SurfaceOperand, SurfaceOperand, &[T
     Ok((from, to, rest))
 }
 
+/// Four operands in parentheses, and what comes after them.
+fn four_operands(
+    tokens: &[Token],
+) -> Result<
+    (
+        SurfaceOperand,
+        SurfaceOperand,
+        SurfaceOperand,
+        SurfaceOperand,
+        &[Token],
+    ),
+    Stop,
+>
+    ensures spelled { IfOk result (λ r. leaves tokens.now ≡ k.OpenRound ∷ operand r.0 ∷ k.Comma
+        ∷ operand r.1 ∷ k.Comma ∷ operand r.2 ∷ k.Comma ∷ operand r.3 ∷ k.CloseRound
+        ∷ leaves r.4.now) }
+    ensures taken { IfOk result (λ r. Accepts (m.operands_predicted 4) tokens.now r.4.now) }
+    ensures fault { IfErr result (λ e. FailsAt e (m.operands_predicted 4) tokens.now) }
+{
+    let (_, rest) = expect(tokens, Kind::OpenRound)?;
+    let (from, rest) = operand(rest)?;
+    let (_, rest) = expect(rest, Kind::Comma)?;
+    let (before, rest) = operand(rest)?;
+    let (_, rest) = expect(rest, Kind::Comma)?;
+    let (last, rest) = operand(rest)?;
+    let (_, rest) = expect(rest, Kind::Comma)?;
+    let (to, rest) = operand(rest)?;
+    let (_, rest) = expect(rest, Kind::CloseRound)?;
+    Ok((from, before, last, to, rest))
+}
+
 /// What comes after the operand that begins a conjunct.
 #[tactic(auto, using(crate::proofs::Parser::Choices::choices))]
 pub fn relation(
@@ -93,13 +124,14 @@ pub fn begins_conjunct(tokens: &[Token]) -> bool
                 | Kind::Ls
                 | Kind::Lseg
                 | Kind::List
+                | Kind::Dll
                 | Kind::Tree
         ),
         _ => false,
     }
 }
 
-/// `emp`, a segment, a list or a tree.
+/// `emp`, a segment, a list, a doubly linked segment or a tree.
 #[tactic(auto, using(crate::proofs::Parser::Choices::choices))]
 pub fn predicate(tokens: &[Token]) -> Result<(SurfaceConjunct, &[Token]), Stop>
     requires no_operand { operand_next (leaves tokens.now) ≡ false }
@@ -127,6 +159,11 @@ pub fn predicate(tokens: &[Token]) -> Result<(SurfaceConjunct, &[Token]), Stop>
         Kind::List => {
             let (value, rest) = one_operand(rest)?;
             Ok((SurfaceConjunct::List(token.place, value), rest))
+        }
+        Kind::Dll => {
+            let (from, before, last, to, rest) = four_operands(rest)?;
+            let all = SurfaceConjunct::Dll(token.place, from, before, last, to);
+            Ok((all, rest))
         }
         Kind::Tree => {
             let (value, rest) = one_operand(rest)?;

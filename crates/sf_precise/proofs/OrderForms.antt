@@ -13,7 +13,7 @@ use Rattle.sf_core.specs.declared.command.Expr.{Expr}
 use Rattle.sf_core.specs.Assertions.Determined.{Leaves, known_after, known_inside}
 use Rattle.sf_core.specs.Assertions.Scopes.{overlap}
 use Rattle.sf_core.specs.Program.Formed.{AssertionWithin, ConjunctWithin, ConjunctsWithin, LevelWithin, conjunct_depth, conjunct_scopes, conjuncts_depth, conjuncts_scopes, level_depth, level_scopes}
-use Rattle.sf_core.specs.Program.Syntax.{Assertion, Conjunct, holds, points, segment, tree, choose, Level, level, Conjuncts, none, also}
+use Rattle.sf_core.specs.Program.Syntax.{Assertion, Conjunct, holds, points, segment, doubly, tree, choose, Level, level, Conjuncts, none, also}
 use Rattle.sf_precise.specs.Order.{IsOrder, IsOrderFrom, IsOrderInside, IsOrderWithin}
 use Rattle.sf_precise.specs.Checked.Lemmas.Agree.{first-leaves}
 
@@ -50,6 +50,7 @@ module _ {E : Type 0} where
     conjunct-rest (holds p t) rest = refl
     conjunct-rest (points p x fs) rest = refl
     conjunct-rest (segment p next x y) rest = refl
+    conjunct-rest (doubly p next back x b z y) rest = refl
     conjunct-rest (tree p left right x) rest = refl
     conjunct-rest (choose p t this that) rest =
         level-rest this (level_scopes that rest)
@@ -105,6 +106,8 @@ module _ {E : Type 0} where
         subst (λ z. IsPermutation (conjunct_scopes z []) []) (sym w) (IsPermutation-refl [])
     within-scopes known c (segment p next x y) w =
         subst (λ z. IsPermutation (conjunct_scopes z []) []) (sym w) (IsPermutation-refl [])
+    within-scopes known c (doubly p next back x b z y) w =
+        subst (λ z. IsPermutation (conjunct_scopes z []) []) (sym w) (IsPermutation-refl [])
     within-scopes known c (tree p left right x) w =
         subst (λ z. IsPermutation (conjunct_scopes z []) []) (sym w) (IsPermutation-refl [])
     within-scopes known c (choose p t this that) w =
@@ -139,6 +142,7 @@ module _ {E : Type 0} where
     within-depth known c (holds p t) w = ap (λ z. conjunct_depth z) w
     within-depth known c (points p x fs) w = ap (λ z. conjunct_depth z) w
     within-depth known c (segment p next x y) w = ap (λ z. conjunct_depth z) w
+    within-depth known c (doubly p next back x b z y) w = ap (λ z. conjunct_depth z) w
     within-depth known c (tree p left right x) w = ap (λ z. conjunct_depth z) w
     within-depth known c (choose p t this that) w =
         ap (λ z. conjunct_depth z) w.2
@@ -181,6 +185,7 @@ module _ (fields : List (List ℕ)) (V : Var → Type 0) where
     within-within known made c (holds p t) e w = subst (ConjunctWithin fields V made) e w
     within-within known made c (points p x fs) e w = subst (ConjunctWithin fields V made) e w
     within-within known made c (segment p next x y) e w = subst (ConjunctWithin fields V made) e w
+    within-within known made c (doubly p next back x b z y) e w = subst (ConjunctWithin fields V made) e w
     within-within known made c (tree p left right x) e w = subst (ConjunctWithin fields V made) e w
     within-within known made c (choose p t this that) e w =
         let parts : ConjunctWithin fields V made (choose p t e.0 e.1) =

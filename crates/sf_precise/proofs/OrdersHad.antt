@@ -10,7 +10,7 @@ use Rattle.sf_core.specs.declared.assertion.Scope.{Scope}
 use Rattle.sf_core.specs.declared.assertion.Test.{Test}
 use Rattle.sf_core.specs.declared.command.Expr.{Expr}
 use Rattle.sf_core.specs.Assertions.Determined.{known_after, known_inside}
-use Rattle.sf_core.specs.Program.Syntax.{Conjunct, holds, points, segment, tree, choose, Level, level, Conjuncts, none, also, Assertion}
+use Rattle.sf_core.specs.Program.Syntax.{Conjunct, holds, points, segment, doubly, tree, choose, Level, level, Conjuncts, none, also, Assertion}
 use Rattle.sf_calls.specs.Checked.Lemmas.Had.{IsHad, had_never, had_once}
 use Rattle.sf_precise.specs.Checked.Laws.{OrdersFromTruncation}
 use Rattle.sf_precise.specs.Order.{IsFirstReady, IsOrder, IsOrderFrom, IsOrderInside, IsOrderOf, IsOrderWithin}
@@ -66,6 +66,20 @@ segment-had (segment q other z u) p next x y h =
     cc
 segment-had c p next x y h = had_never (λ e. cc) h
 
+-- that it is that doubly linked segment
+doubly-had : (c : Conjunct Expr) (p : Place) (next back : FieldId) (x b z y : Operand Expr)
+    → IsHad (c ≡ doubly p next back x b z y)
+doubly-had (doubly q one two v d w u) p next back x b z y h =
+    let place : q ≡ p = ∥∥₁_elim h (place-set q p) (λ e. cc) in
+    let first : one ≡ next = ∥∥₁_elim h (field-set one next) (λ e. cc) in
+    let second : two ≡ back = ∥∥₁_elim h (field-set two back) (λ e. cc) in
+    let from : v ≡ x = ∥∥₁_elim h (operand-set v x) (λ e. cc) in
+    let before : d ≡ b = ∥∥₁_elim h (operand-set d b) (λ e. cc) in
+    let last : w ≡ z = ∥∥₁_elim h (operand-set w z) (λ e. cc) in
+    let to : u ≡ y = ∥∥₁_elim h (operand-set u y) (λ e. cc) in
+    cc
+doubly-had c p next back x b z y h = had_never (λ e. cc) h
+
 -- that it is that tree
 tree-had : (c : Conjunct Expr) (p : Place) (left right : FieldId) (x : Operand Expr)
     → IsHad (c ≡ tree p left right x)
@@ -116,6 +130,7 @@ mutual
   within-had known c (holds p t) h = holds-had c p t h
   within-had known c (points p x fs) h = points-had c p x fs h
   within-had known c (segment p next x y) h = segment-had c p next x y h
+  within-had known c (doubly p next back x b z y) h = doubly-had c p next back x b z y h
   within-had known c (tree p left right x) h = tree-had c p left right x h
   within-had known (choose q u a b) (choose p t (level made os) (level other us)) h =
       let place : q

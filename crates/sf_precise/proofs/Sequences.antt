@@ -25,7 +25,7 @@ use Rattle.sf_core.specs.declared.assertion.Operand.TheVariants.{Known, Exists}
 use Rattle.sf_core.specs.declared.assertion.Test.TheVariants.{True, Equal, Differ}
 use Rattle.sf_base.specs.declared.ids.FieldId.{FieldId}
 use Rattle.sf_core.specs.Assertions.Determined.{CanBeTaken, is_existential, is_in_fields, is_learned}
-use Rattle.sf_core.specs.Program.Syntax.{Conjunct, holds, points, segment, tree, choose, Conjuncts, none}
+use Rattle.sf_core.specs.Program.Syntax.{Conjunct, holds, points, segment, doubly, tree, choose, Conjuncts, none}
 use Rattle.sf_core.specs.Program.View.{conjuncts}
 use Rattle.sf_precise.specs.declared.work.Work.{Work}
 use Rattle.sf_precise.specs.Order.{IsFirstReady, IsOrder, IsOrderWithin}
@@ -147,6 +147,7 @@ learned-is (holds p (Equal x y)) n =
 learned-is (holds p (Differ x y)) n = refl
 learned-is (points p x fs) n = fields-is fs n
 learned-is (segment p next x y) n = refl
+learned-is (doubly p next back x b z y) n = refl
 learned-is (tree p l r x) n = refl
 learned-is (choose p t this that) n = refl
 

@@ -5,12 +5,12 @@ use Rattle.sf_base.specs.declared.place.Place.{Place}
 use Rattle.sf_core.specs.declared.assertion.Operand.{Operand}
 use Rattle.sf_core.specs.declared.assertion.Test.{Test}
 use Rattle.sf_core.specs.declared.command.Expr.{Expr}
-use Rattle.sf_core.specs.declared.assertion.Conjunct.{Conjunct as CodeConjunct, Holds, Points, Segment, Tree, If}
-use Rattle.sf_core.specs.declared.assertion.Conjunct.TheVariants.{rolls-Holds, rolls-Points, rolls-Segment, rolls-Tree, rolls-If}
+use Rattle.sf_core.specs.declared.assertion.Conjunct.{Conjunct as CodeConjunct, Holds, Points, Segment, Doubly, Tree, If}
+use Rattle.sf_core.specs.declared.assertion.Conjunct.TheVariants.{rolls-Holds, rolls-Points, rolls-Segment, rolls-Doubly, rolls-Tree, rolls-If}
 use Rattle.sf_core.specs.declared.assertion.Conjunct.TheFolds.{fold-roll-Conjunct, fold-roll-Level, fold_out-Level}
 use Rattle.sf_core.specs.declared.assertion.Conjunct.TheOpen.{Level-F}
 use Rattle.sf_core.specs.declared.assertion.Level.{Level as CodeLevel, roll-Level, out-Level}
-use Rattle.sf_core.specs.Program.Syntax.{Conjunct, holds, points, segment, tree, choose, Level, level}
+use Rattle.sf_core.specs.Program.Syntax.{Conjunct, holds, points, segment, doubly, tree, choose, Level, level}
 use Rattle.sf_core.specs.Program.View.{conjuncts, conjunct_of, level_of, conjunct_step, level_step}
 
 pub view-holds : (p : Place) (t : Test (Operand Expr)) → conjunct_of {E = Expr} (Holds p t) ≡ holds p t
@@ -28,6 +28,12 @@ pub view-segment : (p : Place) (f : FieldId) (x y : Operand Expr)
     → conjunct_of {E = Expr} (Segment p f x y) ≡ segment p f x y
 view-segment p f x y =
     ap (conjunct_of {E = Expr}) (sym (rolls-Segment p f x y))
+    ∙ fold-roll-Conjunct Expr (Conjunct Expr) (Level Expr) conjunct_step level_step _
+
+pub view-doubly : (p : Place) (f g : FieldId) (x b z y : Operand Expr)
+    → conjunct_of {E = Expr} (Doubly p f g x b z y) ≡ doubly p f g x b z y
+view-doubly p f g x b z y =
+    ap (conjunct_of {E = Expr}) (sym (rolls-Doubly p f g x b z y))
     ∙ fold-roll-Conjunct Expr (Conjunct Expr) (Level Expr) conjunct_step level_step _
 
 pub view-tree : (p : Place) (l r : FieldId) (x : Operand Expr)

@@ -3,7 +3,7 @@
 -- This project's own choice among the orders that Determined allows.
 use Rattle.std.specs.Prelude.{◌≡◌, ◌⊎◌, ℕ, Bool, false}
 use Rattle.sf_core.specs.Assertions.Determined.{CanBeTaken, Determined, known_after, known_inside}
-use Rattle.sf_core.specs.Program.Syntax.{Conjunct, holds, points, segment, tree, choose, Level, level, Conjuncts, none, also, Assertion}
+use Rattle.sf_core.specs.Program.Syntax.{Conjunct, holds, points, segment, doubly, tree, choose, Level, level, Conjuncts, none, also, Assertion}
 
 -- the conjunct is the first of these that can be taken, and those are the others
 abbrev pub IsFirstReady : {E : Type 0} → (ℕ → Bool) → Conjuncts E → Conjunct E → Conjuncts E → Type 0
@@ -26,6 +26,7 @@ abbrev mutual
   IsOrderWithin known c (holds p t) = c ≡ holds p t
   IsOrderWithin known c (points p x fs) = c ≡ points p x fs
   IsOrderWithin known c (segment p next x y) = c ≡ segment p next x y
+  IsOrderWithin known c (doubly p next back x b z y) = c ≡ doubly p next back x b z y
   IsOrderWithin known c (tree p left right x) = c ≡ tree p left right x
   IsOrderWithin {E} known c (choose p t this that) =
       (these those : Level E) × (c ≡ choose p t these those) × IsOrderInside known these this

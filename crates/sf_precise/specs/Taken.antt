@@ -5,13 +5,14 @@ use Rattle.sf_base.specs.declared.place.Place.{Place}
 use Rattle.sf_core.specs.Assertions.Determined.{CanBeTaken, Leaves, known_after}
 use Rattle.sf_precise.specs.declared.fault.OrderFault.{OrderFault}
 use Rattle.sf_precise.specs.declared.fault.OrderFault.TheVariants.{Undetermined, OutOfMemory}
-use Rattle.sf_core.specs.Program.Syntax.{Conjunct, holds, points, segment, tree, choose, Level, level, Conjuncts, none, also}
+use Rattle.sf_core.specs.Program.Syntax.{Conjunct, holds, points, segment, doubly, tree, choose, Level, level, Conjuncts, none, also}
 
 -- the place of a conjunct's first token
 abbrev pub place_at : {E : Type 0} → Conjunct E → Place
 place_at (holds p t) = p
 place_at (points p x fs) = p
 place_at (segment p next x y) = p
+place_at (doubly p next back x b z y) = p
 place_at (tree p left right x) = p
 place_at (choose p t this that) = p
 

@@ -16,7 +16,7 @@ ghost use Rattle.sf_precise.specs.Taken.{IfUndetermined, NeverTakenAt, NeverTake
 ghost use Rattle.sf_precise.specs.Checked.Waits.{known_outside};
 
 use crate::fault::OrderFault;
-use crate::outer::{add_all_not_made, add_existential, add_of_fields, add_of_test};
+use crate::outer::{add_all_not_made, add_existential, add_of_fields, add_of_four, add_of_test};
 use crate::sequence::sequence;
 use sf_base::{Name, Place};
 use sf_core::{Assertion, Conjunct, Expr, Level, Operand, Ordered, Scope, Test};
@@ -168,6 +168,11 @@ fn prepare(
             add_existential(from, outer)?;
             add_existential(to, outer)?;
             Ok(Some(Conjunct::Segment(*place, *next, *from, *to)))
+        }
+        Conjunct::Doubly(place, next, back, from, before, last, to) => {
+            add_of_four(from, before, last, to, outer)?;
+            let (from, before, last, to) = (*from, *before, *last, *to);
+            Ok(Some(Conjunct::Doubly(*place, *next, *back, from, before, last, to)))
         }
         Conjunct::Tree(place, left, right, root) => {
             add_existential(root, outer)?;

@@ -3,7 +3,7 @@
 ghost use Rattle.std.specs.Prelude.{◌≡◌, ◌&&◌, not, filter, flat_map};
 ghost use Rattle.sf_base.specs.Results.{Appends};
 ghost use Rattle.sf_core.specs.Assertions.Scopes.{is_made_by};
-ghost use Rattle.sf_precise.specs.Checked.Outer.{existential, field_existentials, test_existentials};
+ghost use Rattle.sf_precise.specs.Checked.Outer.{existential, field_existentials, of_four, test_existentials};
 
 use sf_base::FieldId;
 use sf_core::{Expr, Operand, Scope, Test};
@@ -38,6 +38,24 @@ pub fn add_of_test(test: &Test<Operand<Expr>>, found: &mut Vec<u32>) -> Result<(
             Ok(())
         }
     }
+}
+
+/// Appends those of the four operands of a doubly linked segment.
+pub fn add_of_four(
+    from: &Operand<Expr>,
+    before: &Operand<Expr>,
+    last: &Operand<Expr>,
+    to: &Operand<Expr>,
+    found: &mut Vec<u32>,
+) -> Result<(), AllocError>
+    ensures { Appends result found.old.items found.new.items
+        (of_four from.now before.now last.now to.now) }
+{
+    add_existential(from, found)?;
+    add_existential(before, found)?;
+    add_existential(last, found)?;
+    add_existential(to, found)?;
+    Ok(())
 }
 
 /// Appends those among the values of fields.

@@ -105,6 +105,7 @@ fn place_of(c: &Conjunct<Expr>) -> Place
         Conjunct::Holds(place, _) => *place,
         Conjunct::Points(place, _, _) => *place,
         Conjunct::Segment(place, _, _, _) => *place,
+        Conjunct::Doubly(place, _, _, _, _, _, _) => *place,
         Conjunct::Tree(place, _, _, _) => *place,
         Conjunct::If(place, _, _, _) => *place,
     }

@@ -6,7 +6,7 @@ ghost use Rattle.sf_core.specs.Program.View.{conjunct_of};
 ghost use Rattle.sf_precise.specs.Checked.Outer.{outer_of};
 ghost use Rattle.sf_precise.specs.Checked.Waits.{is_unknown, known_outside, need_of, rests_on, unknown_among, waits_for};
 
-use crate::outer::{add_existential, add_of_test, is_made_by};
+use crate::outer::{add_existential, add_of_four, add_of_test, is_made_by};
 use sf_core::{Conjunct, Expr, Operand, Scope, Test};
 use std::alloc::{AllocError, Global};
 
@@ -95,6 +95,10 @@ fn add_supplies(c: &Conjunct<Expr>, outer: &[u32], found: &mut Vec<u32>) -> Resu
         Conjunct::Segment(_, _, from, to) => {
             add_existential(from, found)?;
             add_existential(to, found)?;
+            Ok(())
+        }
+        Conjunct::Doubly(_, _, _, from, before, last, to) => {
+            add_of_four(from, before, last, to, found)?;
             Ok(())
         }
         Conjunct::Tree(_, _, _, root) => {

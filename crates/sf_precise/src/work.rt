@@ -67,6 +67,7 @@ impl Work {
                 Ok(())
             }
             Conjunct::Segment(_, _, _, _) => Ok(()),
+            Conjunct::Doubly(_, _, _, _, _, _, _) => Ok(()),
             Conjunct::Tree(_, _, _, _) => Ok(()),
             Conjunct::If(_, _, _, _) => Ok(()),
         }

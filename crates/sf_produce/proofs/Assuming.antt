@@ -13,26 +13,26 @@ use Rattle.sf_base.specs.declared.place.Place.{Place}
 use Rattle.sf_base.specs.declared.value.Value.{Value}
 use Rattle.sf_base.specs.HeapStore.{Heap, IsEmpty, ◌⋆◌}
 use Rattle.sf_core.specs.Assertions.Occurs.{OccursInOne}
-use Rattle.sf_core.specs.Assertions.Sat.{SatAll, SatOne}
+use Rattle.sf_core.specs.Assertions.Sat.{Dseg, SatAll, SatOne, operand}
 use Rattle.sf_core.specs.declared.assertion.Operand.{Operand}
 use Rattle.sf_core.specs.declared.assertion.Test.TheVariants.{True, Equal, Differ as Unequal}
 use Rattle.sf_core.specs.Assertions.Scopes.{overlap}
 use Rattle.sf_core.specs.declared.assertion.Scope.{Scope}
 use Rattle.sf_core.specs.Program.Formed.{conjunct_scopes, conjuncts_scopes, is_made}
-use Rattle.sf_core.specs.Program.Syntax.{Conjunct, holds, points, segment, tree, choose, Conjuncts, none, also}
-use Rattle.sf_produce.proofs.Meeting.{Leads, MeetsBoth, leads-same, leads-trans, met-fields, met-one, met-two, term-keeps, with_bindings}
-use Rattle.sf_produce.specs.Add.{MetBoth, add_first, added, goal_after, met, met_both, met_fields}
+use Rattle.sf_core.specs.Program.Syntax.{Conjunct, holds, points, segment, doubly, tree, choose, Conjuncts, none, also}
+use Rattle.sf_produce.proofs.Meeting.{Leads, MeetsBoth, leads-same, leads-trans, met-fields, met-four, met-one, met-two, term-keeps, with_bindings}
+use Rattle.sf_produce.specs.Add.{MetBoth, add_first, added, goal_after, met, met_both, met_fields, met_four}
 use Rattle.sf_produce.specs.Checked.Laws.{AddKeepsGoals, HoldsAssumed}
 use Rattle.sf_sym.specs.Below.{AllInAtom, AllInItem, AllInPairs, AreBelow, IsBelow}
 use Rattle.sf_sym.specs.Cells.{apart_from_nil, with_atom, with_cell}
 use Rattle.sf_sym.specs.Decided.{term_of}
 use Rattle.sf_sym.specs.declared.atom.Atom.{Atom}
-use Rattle.sf_sym.specs.declared.atom.Atom.TheVariants.{Points, Ls, Tree}
+use Rattle.sf_sym.specs.declared.atom.Atom.TheVariants.{Points, Ls, Tree, Dll}
 use Rattle.sf_sym.specs.declared.term.Term.{Term}
 use Rattle.sf_sym.specs.Equalities.{assumed_apart, assumed_equal, item_with, pending_with, with_pair}
 use Rattle.sf_sym.specs.Formed.{AreFormed, IsCounted, IsScoped, ItemFormed}
 use Rattle.sf_sym.specs.Goal.{Item, Goal, adding}
-use Rattle.sf_sym.specs.Holds.{term_value, AddsHold, AtomHolds, AtomsHold, Differ, IsBound, PendingHolds, SegAlong, TreeAlong}
+use Rattle.sf_sym.specs.Holds.{term_value, AddsHold, AtomHolds, AtomsHold, Differ, DsegAlong, IsBound, PendingHolds, SegAlong, TreeAlong}
 use Rattle.sf_sym.specs.HoldsIn.{HoldsIn}
 use Rattle.sf_sym.specs.Checked.Laws.{AssumedTermsAreBelow, DifferingTermsMayBeAssumed, EqualTermsMayBeAssumed, Follows, KeptWith}
 use Rattle.sf_sym.specs.Checked.Lemmas.Adding.{adding-all, adding-holds}
@@ -363,6 +363,41 @@ module _ (s : State) (p : Place) (cs : Conjuncts Term) (bindings : List (Option 
       (operand-is w f.some m.bindings x m.one f.bound k.meets.one)
       (operand-is w f.some m.bindings y m.two f.bound k.meets.two) d))))
 
+  double-kept : (q : Place) (next back : FieldId) (x b l y : Operand Term) → FirstKept (doubly q next back x b l y)
+  double-kept q next back x b l y below formed row =
+      let c = doubly q next back x b l y in
+      let all : Conjuncts Term = also c cs in
+      let m = met_four s bindings x b l y in
+      let atom : Atom = Dll m.from m.before m.last m.to in
+      let one = formed.0.0.0 in
+      let k = met-four p all rest s bindings x b l y below one.2 one.3 one.4 one.5 (λ z o. inl o) in
+      let after = k.grows.leads.follow in
+      let n = m.state.next_sym in
+      let within = after.below.todo.0 in
+      let tl : m.state.links.tl ≡ Some next = ap (λ z. z.tl) after.links ∙ one.0 in
+      let pv : m.state.links.pv ≡ Some back = ap (λ z. z.pv) after.links ∙ one.1 in
+      assumed-after p rest (goal_with_first c) (with_bindings p all rest m.state m.bindings)
+      (goal_after (with_atom atom m.state) p cs m.bindings rest) left k.grows.leads row
+      (more-follows m.state p c cs m.bindings rest (λ ss. refl) m.state.apart atom after.below after.below.state.apart (
+        operand-below n m.bindings all x m.from within (inl (inl refl)) k.from,
+        operand-below n m.bindings all b m.before within (inl (inr (inl refl))) k.before,
+        operand-below n m.bindings all l m.last within (inl (inr (inr (inl refl)))) k.last,
+        operand-below n m.bindings all y m.to within (inl (inr (inr (inr refl)))) k.to,
+      ))
+      (λ w e free taken h.
+      let f = first-out m.state p c cs m.bindings rest w e free taken h in
+      let value = operand-is w f.some m.bindings in
+      assumed-same m.state p c cs m.bindings rest w (with_atom atom m.state) e free taken
+      (more-holds m.state p c cs m.bindings rest (λ ss. refl) m.state.apart atom w e free taken h f h.apart
+      (λ part d. subst₂
+      (λ i j. DsegAlong i j (term_value w m.from) (term_value w m.before) (term_value w m.last) (term_value w m.to) part)
+      (sym tl) (sym pv)
+      (subst₂ (λ i j. Dseg next back i j (term_value w m.before) (term_value w m.from) part)
+      (value l m.last f.bound k.last) (value y m.to f.bound k.to)
+      (subst₂ (λ i j.
+      Dseg next back (operand (term_value w) f.some l) (operand (term_value w) f.some y) i j part)
+      (value b m.before f.bound k.before) (value x m.from f.bound k.from) d)))))
+
   tree-kept : (q : Place) (l r : FieldId) (x : Operand Term) → FirstKept (tree q l r x)
   tree-kept q l r x below formed row =
       let c = tree q l r x in
@@ -439,6 +474,8 @@ add_keeps_goals s p given rest left shape row = go given.conjuncts shape.below s
         points-kept s p cs given.bindings rest left q x fs below formed row
     go (also (segment q next x y) cs) below formed row =
         segment-kept s p cs given.bindings rest left q next x y below formed row
+    go (also (doubly q next back x b l y) cs) below formed row =
+        double-kept s p cs given.bindings rest left q next back x b l y below formed row
     go (also (tree q l r x) cs) below formed row =
         tree-kept s p cs given.bindings rest left q l r x below formed row
     go (also (choose q x this that) cs) below formed row = absurd (cc)

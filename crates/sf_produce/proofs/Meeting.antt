@@ -3,6 +3,7 @@
 -- symbol, `met-LAW` of operands that are met.
 use Rattle.std.proofs.Common.{◌≡◌, ℕ, ◌+◌, ◌<◌, List, [], ◌∷◌, Option, Some, None, get_or, length, set, refl, sym, ap, ◌∙◌, subst, inl, inr, arith}
 use Rattle.std.specs.List.{AllByRecursion}
+use Rattle.std.specs.Prelude.{◌⊎◌}
 use Rattle.sf_base.proofs.HeapSplits.{star-of}
 use Rattle.sf_base.specs.declared.ids.FieldId.{FieldId}
 use Rattle.sf_base.specs.declared.ids.Var.{Var}
@@ -15,7 +16,7 @@ use Rattle.sf_core.specs.Assertions.Sat.{HasFields, operand}
 use Rattle.sf_core.specs.declared.assertion.Operand.{Operand}
 use Rattle.sf_core.specs.declared.assertion.Operand.TheVariants.{Known, Exists}
 use Rattle.sf_core.specs.Program.Syntax.{Conjuncts}
-use Rattle.sf_produce.specs.Add.{Met, MetBoth, MetFields, met, met_both, met_existential, met_fields}
+use Rattle.sf_produce.specs.Add.{Met, MetBoth, MetFields, MetFour, met, met_both, met_existential, met_fields, met_four}
 use Rattle.sf_produce.specs.Checked.Laws.{assuming}
 use Rattle.sf_sym.specs.Below.{AllPaired, AreBelow, IsBelow, SameBelow}
 use Rattle.sf_sym.specs.Decided.{term_of}
@@ -59,6 +60,10 @@ leads-trans one two three f g = record {
         holds = b.holds;
       };
 }
+
+-- it is one of these four operands
+abbrev pub OccursInFour : (x b l y z : Operand Term) → Type 0
+OccursInFour x b l y z = (z ≡ x) ⊎ ((z ≡ b) ⊎ ((z ≡ l) ⊎ (z ≡ y)))
 
 -- Goals with these conjuncts to assume at this place, before these other things to do
 module _ (p : Place) (cs : Conjuncts Term) (rest : List Item) where
@@ -236,6 +241,36 @@ module _ (p : Place) (cs : Conjuncts Term) (rest : List Item) where
         grows = grows-trans s m.state n.state bindings m.bindings n.bindings one.grows two.grows;
         one = term-keeps m.state n.state m.bindings n.bindings two.grows x m.term one.is;
         two = two.is;
+      }
+
+  -- four operands that are met have their terms
+  pub record MeetsFour (s : State) (bindings : List (Option Term)) (x b l y : Operand Term) (m : MetFour)
+      : Type 0 where
+    pub grows : Grows s bindings m.state m.bindings
+    pub from : term_of m.bindings x ≡ Some m.from
+    pub before : term_of m.bindings b ≡ Some m.before
+    pub last : term_of m.bindings l ≡ Some m.last
+    pub to : term_of m.bindings y ≡ Some m.to
+
+  pub met-four : (s : State) (bindings : List (Option Term)) (x b l y : Operand Term)
+      → AreBelow (with_bindings s bindings) → IsCounted (length bindings) x → IsCounted (length bindings) b
+      → IsCounted (length bindings) l → IsCounted (length bindings) y
+      → ((z : Operand Term) → OccursInFour x b l y z → OccursInAll cs z)
+      → MeetsFour s bindings x b l y (met_four s bindings x b l y)
+  met-four s bindings x b l y below c d e f occurs =
+      let m = met_both s bindings x b in
+      let one = met-two s bindings x b below c d (occurs x (inl refl)) (occurs b (inr (inl refl))) in
+      let two = met-two m.state m.bindings l y one.grows.leads.follow.below
+      (counted-still s m.state bindings m.bindings one.grows l e)
+      (counted-still s m.state bindings m.bindings one.grows y f) (occurs l (inr (inr (inl refl))))
+      (occurs y (inr (inr (inr refl)))) in
+      let n = met_both m.state m.bindings l y in
+      record {
+        grows = grows-trans s m.state n.state bindings m.bindings n.bindings one.grows two.grows;
+        from = term-keeps m.state n.state m.bindings n.bindings two.grows x m.one one.one;
+        before = term-keeps m.state n.state m.bindings n.bindings two.grows b m.two one.two;
+        last = two.one;
+        to = two.two;
       }
 
   -- fields that are met: a cell with the values of the operands has those of their terms

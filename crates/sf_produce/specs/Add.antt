@@ -7,9 +7,9 @@ use Rattle.sf_base.specs.declared.place.Place.{Place}
 use Rattle.sf_core.specs.declared.assertion.Operand.{Operand}
 use Rattle.sf_core.specs.declared.assertion.Operand.TheVariants.{Known, Exists}
 use Rattle.sf_core.specs.declared.assertion.Test.TheVariants.{True, Equal, Differ}
-use Rattle.sf_core.specs.Program.Syntax.{Conjunct, holds, points, segment, tree, choose, Conjuncts, none, also}
+use Rattle.sf_core.specs.Program.Syntax.{Conjunct, holds, points, segment, doubly, tree, choose, Conjuncts, none, also}
 use Rattle.sf_produce.specs.declared.operands.TheConstants.{OPERANDS}
-use Rattle.sf_sym.specs.declared.atom.Atom.TheVariants.{Ls, Tree}
+use Rattle.sf_sym.specs.declared.atom.Atom.TheVariants.{Ls, Tree, Dll}
 use Rattle.sf_sym.specs.declared.term.Term.{Term}
 use Rattle.sf_sym.specs.declared.term.Term.TheVariants.{Sym}
 use Rattle.sf_sym.specs.Cells.{with_cell, with_atom}
@@ -63,6 +63,28 @@ met_both s bindings x y =
     let second = met first.state first.bindings y in
     record { one = first.term; two = second.term; state = second.state; bindings = second.bindings }
 
+-- what meeting the four operands of a doubly linked segment gives, each known to those behind it
+pub record MetFour : Type 0 where
+  pub from : Term
+  pub before : Term
+  pub last : Term
+  pub to : Term
+  pub state : State
+  pub bindings : List (Option Term)
+
+abbrev pub met_four : State → List (Option Term) → (x b l y : Operand Term) → MetFour
+met_four s bindings x b l y =
+    let first = met_both s bindings x b in
+    let second = met_both first.state first.bindings l y in
+    record {
+      from = first.one;
+      before = first.two;
+      last = second.one;
+      to = second.two;
+      state = second.state;
+      bindings = second.bindings;
+    }
+
 -- the goal with that state, in which those other conjuncts are still to be assumed first
 abbrev pub goal_after : State → Place → Conjuncts Term → List (Option Term) → List Item → Goal
 goal_after s p cs bindings rest = record {
@@ -75,6 +97,13 @@ abbrev pub added_segment : State → Place → List (Option Term) → (x y : Ope
 added_segment s p bindings x y cs rest =
     let m = met_both s bindings x y in
     goal_after (with_atom (Ls m.one m.two) m.state) p cs m.bindings rest
+
+-- a doubly linked segment
+abbrev pub added_double : State → Place → List (Option Term) → (x b l y : Operand Term) → Conjuncts Term → List Item
+    → Goal
+added_double s p bindings x b l y cs rest =
+    let m = met_four s bindings x b l y in
+    goal_after (with_atom (Dll m.from m.before m.last m.to) m.state) p cs m.bindings rest
 
 -- a tree
 abbrev pub added_tree : State → Place → List (Option Term) → (x : Operand Term) → Conjuncts Term → List Item → Goal
@@ -96,6 +125,7 @@ added s p bindings (points q x fs) cs rest =
     let m = met_fields root.state root.bindings fs [] in
     Some (goal_after (with_cell m.state root.term m.fields) p cs m.bindings rest)
 added s p bindings (segment q next x y) cs rest = Some (added_segment s p bindings x y cs rest)
+added s p bindings (doubly q next back x b l y) cs rest = Some (added_double s p bindings x b l y cs rest)
 added s p bindings (tree q left right x) cs rest = Some (added_tree s p bindings x cs rest)
 added s p bindings (choose q t this that) cs rest = None
 

@@ -1,8 +1,8 @@
 //! Operands that are met: an existential that is met for the first time gets a fresh symbol.
 
 ghost use Rattle.std.specs.Prelude.{◌≡◌, ◌+◌, ◌<◌, ◌≤◌, ◌^◌, [], IfOk};
-ghost use Rattle.sf_produce.specs.Add.{met, met_both, met_fields};
-ghost use Rattle.sf_produce.specs.Checked.Meeting.{both_of, fields_of, met_of};
+ghost use Rattle.sf_produce.specs.Add.{met, met_both, met_fields, met_four};
+ghost use Rattle.sf_produce.specs.Checked.Meeting.{both_of, fields_of, four_of, met_of};
 ghost use Rattle.sf_sym.specs.Pending.{existentials_in, one_if_existential};
 
 use sf_base::FieldId;
@@ -42,15 +42,36 @@ pub(crate) fn met_both(
     x: Operand<Term>,
     y: Operand<Term>,
 ) -> (Term, Term)
-    requires { state.old.next_sym + OPERANDS < 2 ^ 32 }
+    requires { state.old.next_sym + 2 < 2 ^ 32 }
     ensures met { both_of state.new given.new.bindings result
         ≡ met_both state.old given.old.bindings x y }
     ensures conjuncts { given.new.conjuncts ≡ given.old.conjuncts }
+    ensures symbols { state.new.next_sym ≤ state.old.next_sym + 2 }
     ensures atoms { state.new.next_atom ≡ state.old.next_atom }
 {
     let t = met(state, given, x);
     let u = met(state, given, y);
     (t, u)
+}
+
+/// The terms of the four operands of a doubly linked segment, each known to those behind it.
+pub(crate) fn met_four(
+    state: &mut State,
+    given: &mut Pending,
+    x: Operand<Term>,
+    b: Operand<Term>,
+    l: Operand<Term>,
+    y: Operand<Term>,
+) -> (Term, Term, Term, Term)
+    requires { state.old.next_sym + OPERANDS < 2 ^ 32 }
+    ensures met { four_of state.new given.new.bindings result
+        ≡ met_four state.old given.old.bindings x b l y }
+    ensures conjuncts { given.new.conjuncts ≡ given.old.conjuncts }
+    ensures atoms { state.new.next_atom ≡ state.old.next_atom }
+{
+    let (v, p) = met_both(state, given, x, b);
+    let (m, u) = met_both(state, given, l, y);
+    (v, p, m, u)
 }
 
 /// The terms of a new cell's fields, in the order written. An `Err` means out of memory.

@@ -4,11 +4,11 @@ ghost use Rattle.std.specs.Prelude.{◌≡◌, ◌+◌, ◌<◌, ◌^◌, IfOk, 
 ghost use Rattle.std.specs.Option.{option_map};
 ghost use Rattle.sf_core.specs.Program.Syntax.{holds, points};
 ghost use Rattle.sf_core.specs.declared.assertion.Test.TheVariants.{Differ, Equal};
-ghost use Rattle.sf_produce.specs.Add.{add_first, added, added_segment, added_tree, goal_after, operands};
+ghost use Rattle.sf_produce.specs.Add.{add_first, added, added_double, added_segment, added_tree, goal_after, operands};
 ghost use Rattle.sf_sym.specs.Goal.{goal_of};
 ghost use Rattle.sf_sym.specs.Pending.{existentials_in, one_if_existential, pending_of};
 
-use crate::operands::{OPERANDS, met, met_both, met_fields};
+use crate::operands::{OPERANDS, met, met_both, met_fields, met_four};
 use sf_base::{FieldId, Place};
 use sf_core::{Conjunct, Operand, Test};
 use sf_sym::{Atom, Goal, Pending, Term, with_add};
@@ -40,6 +40,9 @@ pub fn produce<'a>(
             Ok(Some(cell(alloc, goal, place, given, root, fields.as_slice())?))
         }
         Conjunct::Segment(_, _, x, y) => Ok(Some(segment(goal, place, given, x, y)?)),
+        Conjunct::Doubly(_, _, _, x, b, l, y) => {
+            Ok(Some(double(goal, place, given, x, b, l, y)?))
+        }
         Conjunct::Tree(_, _, _, x) => Ok(Some(tree(goal, place, given, x)?)),
         Conjunct::If(..) => Ok(None),
     }
@@ -128,6 +131,27 @@ fn segment<'a>(
 {
     let (t, u) = met_both(&mut goal.state, &mut given, x, y);
     goal.state.add_atom(Atom::Ls(t, u))?;
+    goal_after(goal, place, given)
+}
+
+/// A doubly linked segment is assumed.
+fn double<'a>(
+    mut goal: Goal<'a>,
+    place: Place,
+    mut given: Pending,
+    x: Operand<Term>,
+    b: Operand<Term>,
+    l: Operand<Term>,
+    y: Operand<Term>,
+) -> Result<Goal<'a>, AllocError>
+    requires symbols { goal.state.next_sym + OPERANDS < 2 ^ 32 }
+    requires atoms { goal.state.next_atom + 1 < 2 ^ 32 }
+    ensures { IfOk result (λ g. goal_of g
+        ≡ added_double goal.entry.state place given.bindings x b l y
+        (pending_of given).conjuncts (goal_of goal.entry).todo) }
+{
+    let (v, p, m, u) = met_four(&mut goal.state, &mut given, x, b, l, y);
+    goal.state.add_atom(Atom::Dll(v, p, m, u))?;
     goal_after(goal, place, given)
 }
 

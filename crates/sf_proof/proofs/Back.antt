@@ -94,6 +94,8 @@ written p (t.Force a) h = written-atom p (codes "force") (λ n. t.Force n) a (re
     refl (λ n. refl) h
 written p (t.Unroll a) h = written-atom p (codes "unroll") (λ n. t.Unroll n) a
     (record { some = refl; visible = refl }) refl (λ n. refl) h
+written p (t.Back a) h = written-atom p (codes "back") (λ n. t.Back n) a (record { some = refl; visible = refl }) refl
+    (λ n. refl) h
 written p (t.Look a) h = written-atom p (codes "look") (λ n. t.Look n) a (record { some = refl; visible = refl }) refl
     (λ n. refl) h
 written p (t.Mutate a) h = written-atom p (codes "mutate") (λ n. t.Mutate n) a

@@ -40,6 +40,7 @@ tag_text p (t.Drop a) = atom_text (codes "drop") a
 tag_text p (t.Force a) = atom_text (codes "force") a
 tag_text p (t.Split x y) = split_text x y
 tag_text p (t.Unroll a) = atom_text (codes "unroll") a
+tag_text p (t.Back a) = atom_text (codes "back") a
 tag_text p t.Assign = codes "assign"
 tag_text p (t.Look a) = atom_text (codes "look") a
 tag_text p (t.Mutate a) = atom_text (codes "mutate") a

@@ -66,6 +66,7 @@ tag_with_atom word atom =
     if bytes_eq word (codes "drop") then Some (t.Drop atom)
     else if bytes_eq word (codes "force") then Some (t.Force atom)
     else if bytes_eq word (codes "unroll") then Some (t.Unroll atom)
+    else if bytes_eq word (codes "back") then Some (t.Back atom)
     else if bytes_eq word (codes "look") then Some (t.Look atom)
     else if bytes_eq word (codes "mutate") then Some (t.Mutate atom)
     else if bytes_eq word (codes "dispose") then Some (t.Dispose atom)

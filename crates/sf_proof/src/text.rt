@@ -85,6 +85,7 @@ fn put_tag(text: &mut Vec<u8>, p: &Program, tag: Tag) -> Result<(), AllocError>
         Tag::Force(a) => put_atom(text, "force", a),
         Tag::Split(t, u) => put_split(text, t, u),
         Tag::Unroll(a) => put_atom(text, "unroll", a),
+        Tag::Back(a) => put_atom(text, "back", a),
         Tag::Assign => put(text, "assign"),
         Tag::Look(a) => put_atom(text, "look", a),
         Tag::Mutate(a) => put_atom(text, "mutate", a),

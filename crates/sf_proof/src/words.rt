@@ -91,6 +91,7 @@ fn tag_with_atom(word: &[u8], atom: u32) -> Option<Tag>
         b"drop" => Some(Tag::Drop(atom)),
         b"force" => Some(Tag::Force(atom)),
         b"unroll" => Some(Tag::Unroll(atom)),
+        b"back" => Some(Tag::Back(atom)),
         b"look" => Some(Tag::Look(atom)),
         b"mutate" => Some(Tag::Mutate(atom)),
         b"dispose" => Some(Tag::Dispose(atom)),

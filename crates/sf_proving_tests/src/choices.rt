@@ -2,12 +2,13 @@
 
 use Choice::{Stays, Takes};
 use Front::{Dispose, Finish, Wanted};
-use Part::{AnyCell, Apart, Cell, Ls, Same, Tree, TwiceCell};
+use Part::{AnyCell, Apart, Cell, Dll, Linked, Ls, Same, Tree, TwiceCell};
 use sf_base::{FieldId, Place, Var};
 use sf_core::{Command, Conjunct, Expr, Links, Occurrence, Operand, Test};
 use sf_search::{Choice, choose};
 use sf_sym::{Atom, FieldTerms, Goal, Item, Pending, State, Stuck, Tag, Term};
 use std::alloc::{AllocError, Global};
+use std::process::Abort;
 
 const NIL: Term = Term::Nil;
 
@@ -25,6 +26,8 @@ const LEFT: FieldId = FieldId(1);
 
 const RIGHT: FieldId = FieldId(2);
 
+const BACK: FieldId = FieldId(3);
+
 const HERE: Place = Place { line: 1, column: 1 };
 
 /// A part of the heap, as an atom or as a wanted conjunct, or a wanted test.
@@ -36,6 +39,10 @@ enum Part {
     Ls(Term, Term),
     /// A tree.
     Tree(Term),
+    /// A doubly linked segment.
+    Dll(Term, Term, Term, Term),
+    /// A cell with those terms in its fields `tl` and `pv`.
+    Linked(Term, Term, Term),
     /// A wanted cell, with an existential in its field `tl`.
     AnyCell(Term),
     /// A wanted cell, with one existential in its fields `tl` and `l`.
@@ -88,10 +95,11 @@ fn when<'a>(
 fn state(alloc: Global, row: Row) -> Result<State, AllocError> {
     let links = Links {
         tl: Some(NEXT),
+        pv: Some(BACK),
         l: Some(LEFT),
         r: Some(RIGHT),
     };
-    let mut s = State::new(alloc, links, Vec::new(alloc), 3);
+    let mut s = State::new(alloc, links, Vec::new(alloc), 3)?;
     s.set_var(Var::Own(0), X)?;
     for pair in row.apart {
         s.assume_apart(pair.0, pair.1)?;
@@ -122,6 +130,13 @@ fn add(alloc: Global, s: &mut State, part: Part) -> Result<u32, AllocError> {
         }
         Ls(t, u) => Atom::Ls(t, u),
         Tree(t) => Atom::Tree(t),
+        Dll(t, p, l, u) => Atom::Dll(t, p, l, u),
+        Linked(t, u, p) => {
+            let mut fields = FieldTerms::new(alloc);
+            fields.put(NEXT, u)?;
+            fields.put(BACK, p)?;
+            Atom::Points(t, fields)
+        }
         AnyCell(_) | TwiceCell(_) | Same(..) | Apart(..) => return Err(AllocError),
     };
     s.add_atom(atom)?;
@@ -147,6 +162,16 @@ fn wanted(alloc: Global, part: Part) -> Result<Conjunct<Term>, AllocError> {
         }
         Ls(t, u) => Ok(Conjunct::Segment(HERE, NEXT, Operand::Known(t), Operand::Known(u))),
         Tree(t) => Ok(Conjunct::Tree(HERE, LEFT, RIGHT, Operand::Known(t))),
+        Dll(t, p, l, u) => {
+            let (t, p) = (Operand::Known(t), Operand::Known(p));
+            let (l, u) = (Operand::Known(l), Operand::Known(u));
+            Ok(Conjunct::Doubly(HERE, NEXT, BACK, t, p, l, u))
+        }
+        Linked(t, u, p) => {
+            fields.push((NEXT, Operand::Known(u)))?;
+            fields.push((BACK, Operand::Known(p)))?;
+            Ok(Conjunct::Points(HERE, Operand::Known(t), fields))
+        }
         Same(t, u) => {
             let test = Test::Equal(Operand::Known(t), Operand::Known(u));
             Ok(Conjunct::Holds(HERE, test))
@@ -193,6 +218,15 @@ fn chosen(alloc: Global, row: Row, commands: &[Command]) -> Result<Choice, Alloc
     let mut todo = Vec::new(alloc);
     todo.push(item(alloc, row.front, commands)?)?;
     choose(alloc, &Goal { state, todo })
+}
+
+/// At the goal of each row that is done which the row says.
+fn are_chosen<A: Abort>(rt: &A, alloc: Global, rows: &[Row]) -> Result<(), AllocError> {
+    let commands = disposal(alloc)?;
+    for (i, r) in rows.iter().enumerate() {
+        assert_eq!(rt; chosen(alloc, *r, &commands)?, r.choice, "row {i}");
+    }
+    Ok(())
 }
 
 #[test]
@@ -371,9 +405,163 @@ fn the_strategy_takes_the_first_rule_that_applies(rt: HostRuntime) -> Result<(),
         when(&[], &[], &[], Wanted(Tree(X)), Takes(Tag::Split(X, NIL))),
         when(&[(X, NIL)], &[], &[], Wanted(Tree(X)), Stays(Stuck::NoAtom)),
     ];
-    let commands = disposal(rt.alloc())?;
-    for (i, r) in rows.iter().enumerate() {
-        assert_eq!(rt; chosen(rt.alloc(), *r, &commands)?, r.choice, "row {i}");
-    }
-    Ok(())
+    are_chosen(&rt, rt.alloc(), &rows)
+}
+
+#[test]
+fn doubly_linked_segments_have_their_rules(rt: HostRuntime) -> Result<(), AllocError> {
+    let rows = [
+        when(&[], &[], &[Dll(X, Y, Y, X)], Finish, Takes(Tag::Drop(1))),
+        when(&[], &[], &[Dll(X, Y, Z, X)], Finish, Takes(Tag::Force(1))),
+        when(
+            &[],
+            &[],
+            &[Dll(X, NIL, Y, Z)],
+            Finish,
+            Takes(Tag::Split(X, Z)),
+        ),
+        when(
+            &[(X, NIL)],
+            &[],
+            &[Dll(X, NIL, Y, NIL)],
+            Finish,
+            Stays(Stuck::Leak),
+        ),
+        when(
+            &[],
+            &[],
+            &[Dll(X, NIL, Y, Z)],
+            Dispose,
+            Takes(Tag::Split(X, Z)),
+        ),
+        when(
+            &[(X, Z)],
+            &[],
+            &[Dll(X, NIL, Y, Z)],
+            Dispose,
+            Takes(Tag::Unroll(1)),
+        ),
+        when(
+            &[],
+            &[],
+            &[Dll(Y, NIL, X, Z)],
+            Dispose,
+            Takes(Tag::Split(Y, Z)),
+        ),
+        when(
+            &[(Y, Z)],
+            &[],
+            &[Dll(Y, NIL, X, Z)],
+            Dispose,
+            Takes(Tag::Back(1)),
+        ),
+        // What begins there comes before what ends there, and a tree before both
+        when(
+            &[(X, NIL)],
+            &[],
+            &[Dll(Y, NIL, X, NIL), Dll(X, NIL, Z, NIL)],
+            Dispose,
+            Takes(Tag::Unroll(2)),
+        ),
+        when(
+            &[],
+            &[],
+            &[Dll(X, NIL, Y, Z), Tree(X)],
+            Dispose,
+            Takes(Tag::Split(X, NIL)),
+        ),
+        when(
+            &[],
+            &[],
+            &[Dll(Y, NIL, X, Z)],
+            Wanted(Cell(X, NIL)),
+            Takes(Tag::Split(Y, Z)),
+        ),
+        when(&[], &[], &[], Wanted(Dll(X, Y, Y, X)), Takes(Tag::Empty)),
+        when(
+            &[],
+            &[],
+            &[],
+            Wanted(Dll(X, Y, Z, X)),
+            Stays(Stuck::NotEqual),
+        ),
+        when(
+            &[],
+            &[],
+            &[Ls(Z, NIL)],
+            Wanted(Dll(X, Y, Z, X)),
+            Takes(Tag::Split(Z, NIL)),
+        ),
+        when(
+            &[],
+            &[],
+            &[Dll(X, NIL, Y, NIL)],
+            Wanted(Dll(X, NIL, Y, NIL)),
+            Takes(Tag::Exact(1)),
+        ),
+        when(
+            &[],
+            &[],
+            &[Dll(X, NIL, Y, NIL)],
+            Wanted(Dll(X, NIL, Z, NIL)),
+            Takes(Tag::Split(X, NIL)),
+        ),
+        when(
+            &[(X, NIL)],
+            &[],
+            &[Dll(X, NIL, Y, NIL)],
+            Wanted(Dll(X, NIL, Z, NIL)),
+            Takes(Tag::Join(1)),
+        ),
+        when(
+            &[(X, NIL)],
+            &[],
+            &[Dll(X, NIL, Y, NIL)],
+            Wanted(Dll(X, Y, Y, NIL)),
+            Stays(Stuck::NotEqual),
+        ),
+        when(
+            &[(X, Z), (X, Y)],
+            &[],
+            &[Dll(X, NIL, X, Y)],
+            Wanted(Dll(X, NIL, Z, Z)),
+            Stays(Stuck::EndNotAllocated),
+        ),
+        when(
+            &[],
+            &[],
+            &[Linked(X, Y, NIL)],
+            Wanted(Dll(X, NIL, Z, NIL)),
+            Takes(Tag::Head(1)),
+        ),
+        when(
+            &[],
+            &[],
+            &[Linked(X, Y, SEVEN)],
+            Wanted(Dll(X, NIL, Z, NIL)),
+            Stays(Stuck::NotEqual),
+        ),
+        when(
+            &[],
+            &[],
+            &[Cell(X, Y)],
+            Wanted(Dll(X, NIL, Z, NIL)),
+            Stays(Stuck::NotEqual),
+        ),
+        when(
+            &[(X, NIL)],
+            &[],
+            &[],
+            Wanted(Dll(X, NIL, Y, NIL)),
+            Stays(Stuck::NoAtom),
+        ),
+        when(
+            &[(X, NIL)],
+            &[],
+            &[Dll(Y, NIL, X, Z)],
+            Wanted(Dll(X, NIL, Y, NIL)),
+            Takes(Tag::Split(Y, Z)),
+        ),
+    ];
+    are_chosen(&rt, rt.alloc(), &rows)
 }

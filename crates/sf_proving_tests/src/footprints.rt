@@ -1,6 +1,6 @@
 //! Footprints that were found by hand. The cells have two fields: the first is the field of lists
-//! and the left one of trees, and the second the right one. The variable 0 is the location 1, and
-//! the variable 1 the location 5.
+//! and the left one of trees, and the second the right one and the one that leads back. The variable 0
+//! is the location 1, and the variable 1 the location 5.
 
 use sf_base::{FieldId, Place, Value, Var};
 use sf_core::{Assertion, Conjunct, Expr, Level, Occurrence, Operand, Scope, Test};
@@ -32,6 +32,15 @@ fn some(n: u32) -> Operand<Expr> {
 
 fn list(from: Operand<Expr>, to: Operand<Expr>) -> Conjunct<Expr> {
     Conjunct::Segment(AT, FIRST, from, to)
+}
+
+fn double(
+    from: Operand<Expr>,
+    before: Operand<Expr>,
+    last: Operand<Expr>,
+    to: Operand<Expr>,
+) -> Conjunct<Expr> {
+    Conjunct::Doubly(AT, FIRST, SECOND, from, before, last, to)
 }
 
 fn tree(root: Operand<Expr>) -> Conjunct<Expr> {
@@ -156,6 +165,44 @@ fn lists_are_walked_up_to_their_ends(rt: HostRuntime) -> Result<(), Fail> {
         found(alloc, &number, vec![in alloc; list(x, NIL)]?)?,
         None,
     );
+    Ok(())
+}
+
+/// The only footprint of one conjunct.
+fn assert_one(
+    rt: &impl Abort,
+    alloc: Global,
+    cells: &[(u64, Value, Value)],
+    c: Conjunct<Expr>,
+    expected: Option<&[u64]>,
+) -> Result<(), Fail> {
+    assert_at(rt, found(alloc, cells, vec![in alloc; c]?)?, expected);
+    Ok(())
+}
+
+#[test]
+fn doubly_linked_lists_lead_back(rt: HostRuntime) -> Result<(), Fail> {
+    let alloc = rt.alloc();
+    let (x, y) = (variable(0), variable(1));
+    let three = [
+        (1, Value::Loc(7), Value::Nil),
+        (5, Value::Nil, Value::Loc(7)),
+        (7, Value::Loc(5), Value::Loc(1)),
+    ];
+    assert_one(&rt, alloc, &three, double(x, NIL, y, NIL), Some(&[1, 5, 7]))?;
+    assert_one(&rt, alloc, &three, double(x, y, y, NIL), None)?;
+    assert_one(&rt, alloc, &three, double(x, NIL, x, NIL), None)?;
+    assert_one(&rt, alloc, &three, double(x, y, y, x), Some(&[]))?;
+    assert_one(&rt, alloc, &three, double(x, NIL, y, x), None)?;
+    let behind = vec![in alloc; double(some(0), x, y, NIL), cell(alloc, x, some(0))?]?;
+    assert_at(&rt, found(alloc, &three, behind)?, Some(&[1, 5, 7]));
+    let one_way = [(1, Value::Loc(5), Value::Nil), (5, Value::Nil, Value::Nil)];
+    assert_one(&rt, alloc, &one_way, double(x, NIL, y, NIL), None)?;
+    let round = [
+        (1, Value::Loc(5), Value::Loc(5)),
+        (5, Value::Loc(1), Value::Loc(1)),
+    ];
+    assert_one(&rt, alloc, &round, double(x, y, y, NIL), None)?;
     Ok(())
 }
 

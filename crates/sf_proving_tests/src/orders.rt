@@ -27,6 +27,12 @@ fn list(column: u32, from: Operand<Expr>) -> Conjunct<Expr> {
     Conjunct::Segment(at(column), FieldId(1), from, known())
 }
 
+/// A doubly linked segment from a known place, up to another one.
+fn double(column: u32, before: Operand<Expr>, last: Operand<Expr>) -> Conjunct<Expr> {
+    let back = FieldId(4);
+    Conjunct::Doubly(at(column), FieldId(1), back, known(), before, last, known())
+}
+
 fn equal(column: u32, x: Operand<Expr>, y: Operand<Expr>) -> Conjunct<Expr> {
     Conjunct::Holds(at(column), Test::Equal(x, y))
 }
@@ -61,6 +67,7 @@ fn add_columns(cs: &[Conjunct<Expr>], found: &mut Vec<u32>) -> Result<(), AllocE
             Conjunct::Holds(place, _) => found.push(place.column)?,
             Conjunct::Points(place, _, _) => found.push(place.column)?,
             Conjunct::Segment(place, _, _, _) => found.push(place.column)?,
+            Conjunct::Doubly(place, ..) => found.push(place.column)?,
             Conjunct::Tree(place, _, _, _) => found.push(place.column)?,
             Conjunct::If(place, _, this, that) => {
                 found.push(place.column)?;
@@ -94,6 +101,24 @@ fn columns(
         }
         Err(OrderFault::OutOfMemory) => Err(AllocError),
     }
+}
+
+#[test]
+fn a_doubly_linked_segment_waits_for_all_its_terms(rt: HostRuntime) -> Result<(), Fail> {
+    let alloc = rt.alloc();
+    let cs = vec![in alloc;
+        double(1, some(0), some(1)),
+        cell(alloc, 2, some(1))?,
+        cell(alloc, 3, some(0))?,
+    ]?;
+    let (whole, found) = columns(alloc, 2, cs)?;
+    assert!(rt; whole);
+    assert_eq!(rt; found.as_slice(), [2, 3, 1].as_slice());
+    let cs = vec![in alloc; double(1, some(0), some(1)), cell(alloc, 2, some(0))?]?;
+    let (whole, found) = columns(alloc, 2, cs)?;
+    assert!(rt; !whole);
+    assert_eq!(rt; found.as_slice(), [1].as_slice());
+    Ok(())
 }
 
 #[test]

@@ -64,11 +64,12 @@ fn texts_read_as_their_tags(rt: HostRuntime) {
             &[2],
         ),
         (
-            b"accepted\ndrop 1\nforce 2\nunroll 3\nlook 4\nmutate 5\ndispose 6\nexact 7\nhead 8\njoin 9\nnode 10",
+            b"accepted\ndrop 1\nforce 2\nunroll 3\nback 12\nlook 4\nmutate 5\ndispose 6\nexact 7\nhead 8\njoin 9\nnode 10",
             &[
                 Tag::Drop(1),
                 Tag::Force(2),
                 Tag::Unroll(3),
+                Tag::Back(12),
                 Tag::Look(4),
                 Tag::Mutate(5),
                 Tag::Dispose(6),
@@ -77,7 +78,7 @@ fn texts_read_as_their_tags(rt: HostRuntime) {
                 Tag::Join(9),
                 Tag::Node(10),
             ],
-            &[2, 3, 4, 5, 6, 7, 8, 9, 10, 11],
+            &[2, 3, 4, 5, 6, 7, 8, 9, 10, 11, 12],
         ),
         (
             b"accepted\nabsurd\nassign\nnew\nthen\nelse\nloop\naround\nagain\ncall\nfork\nenter\nexit\nreturn\ngive\nbind\nsame\napart\nempty",
@@ -113,7 +114,7 @@ fn texts_read_as_their_tags(rt: HostRuntime) {
 
 #[test]
 fn the_first_line_that_is_none_is_named(rt: HostRuntime) {
-    let cases: [(&[u8], u32); 29] = [
+    let cases: [(&[u8], u32); 32] = [
         (b"", 1),
         (b"\n", 1),
         (b"\naccepted", 1),
@@ -135,6 +136,9 @@ fn the_first_line_that_is_none_is_named(rt: HostRuntime) {
         (b"accepted\ncell +1", 2),
         (b"accepted\ncell 4294967296", 2),
         (b"accepted\ncell 1\r\r\nend", 2),
+        (b"accepted\nback", 2),
+        (b"accepted\nback s1", 2),
+        (b"accepted\nback 1 1", 2),
         (b"accepted\nsplit s0", 2),
         (b"accepted\nsplit s0 s1 s2", 2),
         (b"accepted\nsplit s0 s4294967296", 2),
@@ -163,8 +167,13 @@ fn names_have_a_limit(rt: HostRuntime) -> Result<(), AllocError> {
 
 #[test]
 fn what_is_written_is_read_back(rt: HostRuntime) -> Result<(), AllocError> {
-    let tags = [Tag::Split(Term::Int(-7), Term::Nil), Tag::Join(4), Tag::End];
+    let tags = [
+        Tag::Split(Term::Int(-7), Term::Nil),
+        Tag::Back(9),
+        Tag::Join(4),
+        Tag::End,
+    ];
     let text = proof_text(rt.alloc(), &empty(rt.alloc()), &tags)?;
-    assert!(rt; reads_as(rt.alloc(), text.as_slice(), &tags, &[2, 3, 4]));
+    assert!(rt; reads_as(rt.alloc(), text.as_slice(), &tags, &[2, 3, 4, 5]));
     Ok(())
 }

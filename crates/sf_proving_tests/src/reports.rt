@@ -2,7 +2,7 @@
 //! with names are tried where programs are read.
 
 use crate::programs::empty;
-use sf_base::{Place, ProcId};
+use sf_base::{FieldId, Place, ProcId};
 use sf_core::{Conjunct, Operand, Program, Test};
 use sf_report::{failed, too_large};
 use sf_sym::{Atom, Goal, Item, Pending, State, Stuck, Term};
@@ -19,7 +19,7 @@ fn hand_over(s: &mut State, a: u32) -> Result<(), AllocError> {
 /// A state with three parts of the heap, of which the last and the first were handed over, and with
 /// one of its pairs twice.
 fn state(alloc: Global, p: &Program) -> Result<State, AllocError> {
-    let mut s = State::new(alloc, p.links, Vec::new(alloc), 3);
+    let mut s = State::new(alloc, p.links, Vec::new(alloc), 3)?;
     s.assume_apart(Term::Sym(0), Term::Sym(2))?;
     s.assume_apart(Term::Nil, Term::Sym(1))?;
     s.assume_apart(Term::Sym(1), Term::Nil)?;
@@ -27,6 +27,7 @@ fn state(alloc: Global, p: &Program) -> Result<State, AllocError> {
     s.add_atom(Atom::Ls(Term::Sym(0), Term::Nil))?;
     s.add_atom(Atom::Tree(Term::Int(5)))?;
     s.add_atom(Atom::Ls(Term::Sym(1), Term::Sym(2)))?;
+    s.add_atom(Atom::Dll(Term::Sym(2), Term::Nil, Term::Sym(1), Term::Int(9)))?;
     hand_over(&mut s, 3)?;
     hand_over(&mut s, 1)?;
     Ok(s)
@@ -34,7 +35,7 @@ fn state(alloc: Global, p: &Program) -> Result<State, AllocError> {
 
 /// The lines of that state.
 const LINES: &str =
-    "vars\napart s0 != -7, s1 != nil, s2 != s0\natoms 2: tree(5)\ntaken 1: ls(s0,nil), 3: ls(s1,s2)\n";
+    "vars\napart s0 != -7, s1 != nil, s2 != s0\natoms 2: tree(5), 4: dll(s2,nil,s1,9)\ntaken 1: ls(s0,nil), 3: ls(s1,s2)\n";
 
 /// Whether that is the text of the goal with that state and only that to do.
 fn says(
@@ -121,6 +122,49 @@ fn what_is_wanted_is_told(rt: HostRuntime) -> Result<(), AllocError> {
             "want s2|->\n"
         )?
     );
+    Ok(())
+}
+
+/// A doubly linked segment that is still to be shown, up to that term.
+fn double<'a>(alloc: Global, place: Place, before: Term, to: Term) -> Result<Item<'a>, AllocError> {
+    let (next, back) = (FieldId(0), FieldId(1));
+    let from = Operand::Known(Term::Sym(2));
+    let (before, to) = (Operand::Known(before), Operand::Known(to));
+    let last = Operand::Exists(0);
+    take(
+        alloc,
+        place,
+        Conjunct::Doubly(place, next, back, from, before, last, to),
+    )
+}
+
+#[test]
+fn a_wanted_doubly_linked_segment_is_told(rt: HostRuntime) -> Result<(), AllocError> {
+    let alloc = rt.alloc();
+    let at = Place { line: 3, column: 4 };
+    let rows = [
+        (
+            Term::Nil,
+            Term::Nil,
+            Stuck::NoAtom,
+            "want dll(s2,nil,12,nil)\n",
+        ),
+        (
+            Term::Int(1),
+            Term::Sym(2),
+            Stuck::NotEqual,
+            "want 1 == 12\n",
+        ),
+        (Term::Int(1), Term::Nil, Stuck::NotEqual, "want nil == 1\n"),
+    ];
+    for (before, to, kind, want) in rows {
+        let first = match kind {
+            Stuck::NotEqual => "failed  at 3:4 NotEqual\n",
+            _ => "failed  at 3:4 NoAtom\n",
+        };
+        let wanted = double(alloc, at, before, to)?;
+        assert!(rt; says(alloc, wanted, kind, first, want)?);
+    }
     Ok(())
 }
 

@@ -1,6 +1,6 @@
 //! What a state knows of terms, and whether it can be at all, by a table.
 
-use Shape::{Cell, Ls, Tree};
+use Shape::{Cell, Dll, Ls, Tree};
 use sf_base::FieldId;
 use sf_core::Links;
 use sf_sym::{Atom, FieldTerms, Kind, State, Term};
@@ -20,6 +20,7 @@ enum Shape {
     Cell(Term),
     Ls(Term, Term),
     Tree(Term),
+    Dll(Term, Term, Term, Term),
 }
 
 /// One more atom, and its number.
@@ -32,6 +33,7 @@ fn add(alloc: Global, s: &mut State, shape: Shape) -> Result<u32, AllocError> {
         Shape::Cell(t) => Atom::Points(t, FieldTerms::new(alloc)),
         Shape::Ls(t, u) => Atom::Ls(t, u),
         Shape::Tree(t) => Atom::Tree(t),
+        Shape::Dll(t, p, l, u) => Atom::Dll(t, p, l, u),
     })?;
     Ok(number)
 }
@@ -45,10 +47,11 @@ fn state(
 ) -> Result<State, AllocError> {
     let links = Links {
         tl: Some(FieldId(0)),
+        pv: None,
         l: Some(FieldId(1)),
         r: Some(FieldId(2)),
     };
-    let mut s = State::new(alloc, links, Vec::new(alloc), 2);
+    let mut s = State::new(alloc, links, Vec::new(alloc), 2)?;
     for pair in apart {
         s.assume_apart(pair.0, pair.1)?;
     }
@@ -118,6 +121,31 @@ fn states_answer_as_they_should(rt: HostRuntime) -> Result<(), AllocError> {
         known(&[], &[Ls(FIVE, FIVE)], &[], [NO, NO, NO, NO]),
         known(&[], &[], &[Tree(FIVE)], [NO, NO, NO, YES]),
         known(&[], &[Tree(NIL)], &[], [NO, NO, NO, NO]),
+        // A doubly linked segment has cells at both its ends where it isn't empty
+        known(&[], &[Dll(X, NIL, Y, NIL)], &[], [NO, NO, NO, NO]),
+        known(&[(X, NIL)], &[Dll(X, NIL, Y, NIL)], &[], [NO, YES, YES, NO]),
+        known(&[(Y, NIL)], &[Dll(Y, NIL, X, NIL)], &[], [NO, YES, YES, NO]),
+        known(&[(X, NIL)], &[Dll(X, NIL, X, NIL)], &[], [NO, YES, YES, NO]),
+        known(
+            &[(X, NIL)],
+            &[Dll(X, NIL, X, NIL)],
+            &[Cell(Y)],
+            [YES, YES, YES, NO],
+        ),
+        known(
+            &[(X, NIL)],
+            &[Dll(X, NIL, Y, NIL)],
+            &[Cell(Y)],
+            [YES, YES, YES, YES],
+        ),
+        known(
+            &[(X, NIL)],
+            &[],
+            &[Dll(X, NIL, FIVE, NIL)],
+            [NO, YES, YES, YES],
+        ),
+        known(&[], &[Dll(NIL, X, Y, FIVE)], &[], [NO, NO, NO, YES]),
+        known(&[], &[Dll(FIVE, X, Y, FIVE)], &[], [NO, NO, NO, NO]),
     ];
     for (i, r) in rows.iter().enumerate() {
         let mut s = state(rt.alloc(), r.apart, r.kept, r.taken)?;
@@ -154,8 +182,34 @@ fn what_comes_after_a_state_was_settled_counts(rt: HostRuntime) -> Result<(), Al
 }
 
 #[test]
+fn what_is_empty_is_dropped_or_forced(rt: HostRuntime) -> Result<(), AllocError> {
+    let rows: [(&[Shape], Option<u32>, Option<(u32, Term, Term)>); 6] = [
+        (&[Dll(X, Y, Y, X)], Some(1), None),
+        (&[Dll(X, NIL, Y, X)], None, Some((1, NIL, Y))),
+        (&[Dll(X, NIL, Y, NIL)], None, None),
+        (&[Dll(X, NIL, Y, NIL), Cell(X)], None, Some((1, X, NIL))),
+        (&[Dll(X, NIL, Y, NIL), Cell(Y)], None, None),
+        (&[Dll(FIVE, NIL, X, Y)], None, Some((1, FIVE, Y))),
+    ];
+    for (i, r) in rows.iter().enumerate() {
+        let s = state(rt.alloc(), &[], r.0, &[])?;
+        assert_eq!(rt; s.droppable(), r.1, "row {i}");
+        assert_eq!(rt; s.forced(), r.2, "row {i}");
+    }
+    Ok(())
+}
+
+#[test]
 fn the_lowest_atom_of_a_kind_is_found_at_its_term(rt: HostRuntime) -> Result<(), AllocError> {
-    let kept = [Ls(X, NIL), Cell(X), Cell(X), Ls(X, Y), Tree(Y)];
+    let kept = [
+        Ls(X, NIL),
+        Cell(X),
+        Cell(X),
+        Ls(X, Y),
+        Tree(Y),
+        Dll(X, Y, Y, NIL),
+        Dll(Y, NIL, X, NIL),
+    ];
     let s = state(rt.alloc(), &[], &kept, &[Cell(X)])?;
     let rows = [
         (X, Kind::Cell, Some(3)),
@@ -165,6 +219,13 @@ fn the_lowest_atom_of_a_kind_is_found_at_its_term(rt: HostRuntime) -> Result<(),
         (X, Kind::SegmentTo(X), None),
         (X, Kind::Tree, None),
         (Y, Kind::Tree, Some(6)),
+        (X, Kind::Double, Some(7)),
+        (X, Kind::DoubleLast, Some(8)),
+        (Y, Kind::Double, Some(8)),
+        (Y, Kind::DoubleLast, Some(7)),
+        (X, Kind::DoubleTo(Y, Y, NIL), Some(7)),
+        (X, Kind::DoubleTo(NIL, Y, NIL), None),
+        (NIL, Kind::DoubleLast, None),
     ];
     for (i, r) in rows.iter().enumerate() {
         assert_eq!(rt; s.lowest_at(r.0, r.1), r.2, "row {i}");

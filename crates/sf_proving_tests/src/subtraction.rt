@@ -26,12 +26,15 @@ const LEFT: FieldId = FieldId(1);
 
 const RIGHT: FieldId = FieldId(2);
 
+const BACK: FieldId = FieldId(3);
+
 const HERE: Place = Place { line: 1, column: 1 };
 
 /// A state with the symbols X, Y and Z, of which nothing is known.
-fn blank(alloc: Global) -> State {
+fn blank(alloc: Global) -> Result<State, AllocError> {
     let links = Links {
         tl: Some(NEXT),
+        pv: Some(BACK),
         l: Some(LEFT),
         r: Some(RIGHT),
     };
@@ -75,6 +78,15 @@ fn add_list(state: &mut State, from: Term, to: Term) -> Result<(), ConsumeFault>
     Ok(())
 }
 
+/// One more doubly linked segment is there.
+fn add_double(state: &mut State, atom: Atom) -> Result<(), ConsumeFault> {
+    if state.next_atom() > 9 {
+        return Err(ConsumeFault::NotARule);
+    }
+    state.add_atom(atom)?;
+    Ok(())
+}
+
 /// One more cell is there, of which no field is known.
 fn add_cell(alloc: Global, state: &mut State, root: Term) -> Result<(), ConsumeFault> {
     if state.next_atom() > 9 {
@@ -84,10 +96,22 @@ fn add_cell(alloc: Global, state: &mut State, root: Term) -> Result<(), ConsumeF
     Ok(())
 }
 
+/// One more cell is there, of which only what it leads back to is known.
+fn add_back(alloc: Global, state: &mut State, root: Term, back: Term) -> Result<(), ConsumeFault> {
+    if state.next_atom() > 9 {
+        return Err(ConsumeFault::NotARule);
+    }
+    let mut fields = FieldTerms::new(alloc);
+    fields.put(BACK, back)?;
+    state.add_cell(root, fields)?;
+    Ok(())
+}
+
 /// Where the list or tree that is wanted first begins.
 fn root(want: &Pending) -> Option<Term> {
     match want.first()? {
         Conjunct::Segment(_, _, Operand::Known(t), _) => Some(*t),
+        Conjunct::Doubly(_, _, _, Operand::Known(t), ..) => Some(*t),
         Conjunct::Tree(_, _, _, Operand::Known(t)) => Some(*t),
         _ => None,
     }
@@ -99,9 +123,17 @@ fn list(from: Term, to: Term) -> Conjunct<Term>
     Conjunct::Segment(HERE, NEXT, Operand::Known(from), Operand::Known(to))
 }
 
+fn double(from: Term, before: Term, last: Term, to: Term) -> Conjunct<Term>
+    ensures { new_symbols (also (conjunct_of result) none) ≤ 2 }
+{
+    let (from, before) = (Operand::Known(from), Operand::Known(before));
+    let (last, to) = (Operand::Known(last), Operand::Known(to));
+    Conjunct::Doubly(HERE, NEXT, BACK, from, before, last, to)
+}
+
 #[test]
 fn tests_are_shown(rt: HostRuntime) -> Result<(), ConsumeFault> {
-    let mut s = blank(rt.alloc());
+    let mut s = blank(rt.alloc())?;
     let same = Conjunct::Holds(HERE, Test::Equal(Operand::Known(X), Operand::Known(X)));
     assert!(rt; shown(rt.alloc(), &mut s, same, Tag::Same)?.is_empty());
     let bind = Conjunct::Holds(HERE, Test::Equal(Operand::Known(Y), Operand::Exists(0)));
@@ -115,7 +147,7 @@ fn tests_are_shown(rt: HostRuntime) -> Result<(), ConsumeFault> {
 
 #[test]
 fn segments_are_handed_over(rt: HostRuntime) -> Result<(), ConsumeFault> {
-    let mut s = blank(rt.alloc());
+    let mut s = blank(rt.alloc())?;
     add_list(&mut s, X, Y)?;
     add_list(&mut s, Y, Z)?;
     assert!(rt; shown(rt.alloc(), &mut s, list(X, X), Tag::Empty)?.is_empty());
@@ -130,8 +162,49 @@ fn segments_are_handed_over(rt: HostRuntime) -> Result<(), ConsumeFault> {
 }
 
 #[test]
+fn doubly_linked_segments_are_handed_over(rt: HostRuntime) -> Result<(), ConsumeFault> {
+    let nil = Term::Nil;
+    let mut s = blank(rt.alloc())?;
+    add_double(&mut s, Atom::Dll(X, nil, Y, Z))?;
+    add_double(&mut s, Atom::Dll(Z, Y, Z, X))?;
+    let empty = double(X, Y, Y, X);
+    assert!(rt; shown(rt.alloc(), &mut s, empty, Tag::Empty)?.is_empty());
+    let other = double(X, nil, Y, X);
+    assert!(rt; shown(rt.alloc(), &mut s, other, Tag::Empty).is_err());
+    let behind = double(X, X, Y, nil);
+    assert!(rt; shown(rt.alloc(), &mut s, behind, Tag::Join(1)).is_err());
+    let within = double(X, nil, Y, Y);
+    assert!(rt; shown(rt.alloc(), &mut s, within, Tag::Join(1)).is_err());
+    assert!(rt; s.taken().is_empty());
+    let want = shown(rt.alloc(), &mut s, double(X, nil, X, nil), Tag::Join(1))?;
+    assert!(rt; root(&want) == Some(Z));
+    let same = double(Z, Y, Z, X);
+    assert!(rt; shown(rt.alloc(), &mut s, same, Tag::Exact(2))?.is_empty());
+    assert_eq!(rt; s.taken().len(), 2);
+    assert!(rt; s.atoms().is_empty());
+    Ok(())
+}
+
+#[test]
+fn a_doubly_linked_segment_begins_with_a_cell(rt: HostRuntime) -> Result<(), ConsumeFault> {
+    let nil = Term::Nil;
+    let mut s = blank(rt.alloc())?;
+    add_cell(rt.alloc(), &mut s, X)?;
+    add_back(rt.alloc(), &mut s, Y, X)?;
+    let unknown = double(X, nil, Z, nil);
+    assert!(rt; shown(rt.alloc(), &mut s, unknown, Tag::Head(1)).is_err());
+    let elsewhere = double(Y, nil, Z, nil);
+    assert!(rt; shown(rt.alloc(), &mut s, elsewhere, Tag::Head(2)).is_err());
+    let want = shown(rt.alloc(), &mut s, double(Y, X, Z, nil), Tag::Head(2))?;
+    assert!(rt; root(&want) == Some(FRESH));
+    assert_eq!(rt; s.next_sym(), 4);
+    assert_eq!(rt; s.taken().len(), 1);
+    Ok(())
+}
+
+#[test]
 fn cells_are_handed_over(rt: HostRuntime) -> Result<(), ConsumeFault> {
-    let mut s = blank(rt.alloc());
+    let mut s = blank(rt.alloc())?;
     add_cell(rt.alloc(), &mut s, X)?;
     add_cell(rt.alloc(), &mut s, Y)?;
     add_cell(rt.alloc(), &mut s, Z)?;

@@ -50,7 +50,7 @@ fn file(alloc: Global, bytes: &[u8]) -> Option<File> {
 
 #[test]
 fn files_are_read_or_refused_at_the_first_bad_token(rt: HostRuntime) {
-    let cases: [(&[u8], Answer); 78] = [
+    let cases: [(&[u8], Answer); 84] = [
         (b"f() [__ == nil] { }", Answer::Read),
         (b"f() { } /* \xc3\xa4 @ */", Answer::Read),
         (b"f(x) { x->tl = -9223372036854775808; }", Answer::Read),
@@ -82,6 +82,12 @@ fn files_are_read_or_refused_at_the_first_bad_token(rt: HostRuntime) {
         ),
         (b"f(x) [lseg(x)] { }", unexpected(13)),
         (b"f(list) { }", unexpected(3)),
+        (b"f(dll) { }", unexpected(3)),
+        (b"tl, pv; f(x, l) [dll(x,nil,l,nil)] { }", Answer::Read),
+        (b"f(x) [dll(_a,_b,3,NULL) * x == _a] { }", Answer::Read),
+        (b"f(x) [dll(x,nil,x)] { }", unexpected(18)),
+        (b"f(x) [dll(x,x,x,x,x)] { }", unexpected(18)),
+        (b"f(x) [dll x] { }", unexpected(11)),
         (b"a b;", unexpected(3)),
         (b"f() { with r when (x == nil) { } }", Answer::Read),
         (b"q; f(x) { x->tl = 1; }", Answer::Read),
@@ -334,7 +340,7 @@ fn a_branch_reaches_to_the_right(rt: HostRuntime) {
 }
 
 /// The printed grammar, in letters: a capital for a rule, any other for a token.
-const GRAMMAR: [(u8, &[u8]); 68] = [
+const GRAMMAR: [(u8, &[u8]); 69] = [
     (b'F', b""),
     (b'F', b"IF"),
     (b'I', b"xW;"),
@@ -393,6 +399,7 @@ const GRAMMAR: [(u8, &[u8]); 68] = [
     (b'S', b"s(O,O)"),
     (b'S', b"g(O,O)"),
     (b'S', b"l(O)"),
+    (b'S', b"k(O,O,O,O)"),
     (b'S', b"y(O)"),
     (b'H', b""),
     (b'H', b"x:OJ"),
@@ -406,7 +413,7 @@ const GRAMMAR: [(u8, &[u8]); 68] = [
 ];
 
 /// The letters of all tokens.
-const LETTERS: &[u8] = b"x_0udemilosgn.rtybwhv()[]{},;:*=~!>|&";
+const LETTERS: &[u8] = b"x_0udkemilosgn.rtybwhv()[]{},;:*=~!>|&";
 
 /// How the token of that letter is written.
 fn spelling(letter: u8) -> &'static [u8] {
@@ -416,6 +423,7 @@ fn spelling(letter: u8) -> &'static [u8] {
         b'0' => b"-7",
         b'u' => b"NULL",
         b'd' => b"dispose",
+        b'k' => b"dll",
         b'e' => b"else",
         b'm' => b"emp",
         b'i' => b"if",

@@ -178,13 +178,15 @@ fn tokens_have_their_ends_and_places(rt: HostRuntime) {
 #[test]
 fn each_kind_is_read(rt: HostRuntime) {
     let text =
-        b"a _b 1 NULL dispose else emp if list local ls lseg new nil resource then tree true when while with()[]{},;:*= == != -> |-> ||";
+        b"a _b 1 NULL dispose dll dlls else emp if list local ls lseg new nil resource then tree true when while with()[]{},;:*= == != -> |-> ||";
     let kinds = [
         Kind::Name,
         Kind::Existential,
         Kind::Number,
         Kind::Null,
         Kind::Dispose,
+        Kind::Dll,
+        Kind::Name,
         Kind::Else,
         Kind::Emp,
         Kind::If,

@@ -7,7 +7,7 @@ use Rattle.sf_base.specs.declared.ids.Var.{Var}
 use Rattle.sf_base.specs.declared.place.Place.{Place}
 use Rattle.sf_core.specs.Program.Syntax.{Program}
 use Rattle.sf_sym.specs.declared.atom.Atom.{Atom}
-use Rattle.sf_sym.specs.declared.atom.Atom.TheVariants.{Points, Ls, Tree}
+use Rattle.sf_sym.specs.declared.atom.Atom.TheVariants.{Points, Ls, Tree, Dll}
 use Rattle.sf_sym.specs.declared.atom.Numbered.{Numbered}
 use Rattle.sf_sym.specs.declared.term.Term.{Term}
 use Rattle.sf_proof.specs.ProofText.{Text, term_text}
@@ -50,6 +50,11 @@ known_text p f = field_text p f.0 ++ codes ":" ++ term_text f.1
 abbrev pub segment_text : (from to : Text) → Text
 segment_text from to = codes "ls(" ++ from ++ codes "," ++ to ++ codes ")"
 
+-- a doubly linked segment between two terms, with what stands before it and its last cell, each as it is written
+abbrev pub double_text : (from before last to : Text) → Text
+double_text from before last to =
+    codes "dll(" ++ from ++ codes "," ++ before ++ codes "," ++ last ++ codes "," ++ to ++ codes ")"
+
 -- a tree from a term, as it is written
 abbrev pub tree_text : Text → Text
 tree_text root = codes "tree(" ++ root ++ codes ")"
@@ -63,6 +68,7 @@ abbrev pub shape_text : Program → Atom → Text
 shape_text p (Points t fields) = cell_text (known_text p) (term_text t) fields
 shape_text p (Ls t u) = segment_text (term_text t) (term_text u)
 shape_text p (Tree t) = tree_text (term_text t)
+shape_text p (Dll v b l u) = double_text (term_text v) (term_text b) (term_text l) (term_text u)
 
 -- the same with its number
 abbrev pub numbered_text : Program → Numbered → Text

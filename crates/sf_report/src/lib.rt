@@ -17,4 +17,4 @@ mod wanted;
 
 pub use failure::{failed, put_goal_line, too_large};
 pub use names::put_variable;
-pub use wanted::{address, misfit_at, term};
+pub use wanted::{address, double_misfit, misfit_at, term};

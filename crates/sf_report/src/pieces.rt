@@ -3,7 +3,8 @@
 ghost use Rattle.std.specs.Prelude.{◌≡◌, [], codes};
 ghost use Rattle.sf_base.specs.Results.{Appends};
 ghost use Rattle.sf_core.specs.Program.ProgramView.{program_of};
-ghost use Rattle.sf_report.specs.Pieces.{joined, kind_text, known_text, line_text, numbered_text, pair_text, place_text, shape_text, value_text};
+ghost use Rattle.sf_proof.specs.ProofText.{term_text};
+ghost use Rattle.sf_report.specs.Pieces.{double_text, joined, kind_text, known_text, line_text, numbered_text, pair_text, place_text, shape_text, value_text};
 
 use crate::names::{put_bytes, put_field, put_variable};
 use itoa::Buffer;
@@ -142,7 +143,25 @@ fn put_shape(text: &mut Vec<u8>, p: &Program, atom: &Atom) -> Result<(), AllocEr
             put_term(text, *t)?;
             put(text, ")")
         }
+        Atom::Dll(v, b, l, u) => put_double(text, *v, *b, *l, *u),
     }
+}
+
+/// Appends a doubly linked segment: where it begins, what stands before it, its last cell, where it
+/// ends. An `Err` means out of memory.
+fn put_double(text: &mut Vec<u8>, v: Term, b: Term, l: Term, u: Term) -> Result<(), AllocError>
+    ensures { Appends result text.old.items text.new.items
+        (double_text (term_text v) (term_text b) (term_text l) (term_text u)) }
+{
+    put(text, "dll(")?;
+    put_term(text, v)?;
+    put(text, ",")?;
+    put_term(text, b)?;
+    put(text, ",")?;
+    put_term(text, l)?;
+    put(text, ",")?;
+    put_term(text, u)?;
+    put(text, ")")
 }
 
 /// Appends a part of the heap with its number. An `Err` means out of memory.

@@ -11,16 +11,16 @@ ghost use Rattle.sf_sym.specs.Checked.Items.{is_nothing};
 ghost use Rattle.sf_sym.specs.Pending.{pending_of};
 ghost use Rattle.sf_sym.specs.State.{term};
 ghost use Rattle.sf_proof.specs.ProofText.{term_text};
-ghost use Rattle.sf_report.specs.Pieces.{joined};
-ghost use Rattle.sf_report.specs.Wanted.{address, address_text, at_conjunct, conjunct_text, first_cell, first_text, misfit_at, misfit_text, operand_text, scope_of, test_text, want_text, wanted_text};
+ghost use Rattle.sf_report.specs.Pieces.{double_text, joined};
+ghost use Rattle.sf_report.specs.Wanted.{address, address_text, at_conjunct, before_at, conjunct_text, double_misfit, first_before, first_cell, first_text, met_before, misfit_at, misfit_of_double, misfit_text, operand_text, scope_of, test_text, want_text, wanted_text};
 
 use crate::names::{name_at, put_bytes, put_field};
 use itoa::Buffer;
 use sf_base::{FieldId, Name};
-use sf_consume::{Met, Misfit, first_misfit};
+use sf_consume::{Met, Misfit, first_misfit, four};
 use sf_core::{Command, Conjunct, Expr, Operand, Program, Test};
 use sf_proof::{put, put_term};
-use sf_sym::{Item, Numbered, Pending, State, Stuck, Term, peek_item, term_of};
+use sf_sym::{Atom, Item, Numbered, Pending, State, Stuck, Term, field_term, peek_item, term_of};
 use std::alloc::{AllocError, Global};
 
 /// What existentials stand for, and their names.
@@ -128,12 +128,38 @@ fn put_conjunct(
             put_operand(text, bound, *y)?;
             put(text, ")")
         }
+        Conjunct::Doubly(_, _, _, x, b, l, y) => put_double(text, bound, *x, *b, *l, *y),
         Conjunct::Tree(_, _, _, x) => {
             put(text, "tree(")?;
             put_operand(text, bound, *x)?;
             put(text, ")")
         }
     }
+}
+
+/// Appends a wanted doubly linked segment: where it begins, what stands before it, its last cell,
+/// where it ends. An `Err` means out of memory.
+fn put_double(
+    text: &mut Vec<u8>,
+    bound: Bound<'_>,
+    x: Operand<Term>,
+    b: Operand<Term>,
+    l: Operand<Term>,
+    y: Operand<Term>,
+) -> Result<(), AllocError>
+    ensures { Appends result text.old.items text.new.items
+        (double_text (operand_text (scope_of bound.entry) x) (operand_text (scope_of bound.entry) b)
+        (operand_text (scope_of bound.entry) l) (operand_text (scope_of bound.entry) y)) }
+{
+    put(text, "dll(")?;
+    put_operand(text, bound, x)?;
+    put(text, ",")?;
+    put_operand(text, bound, b)?;
+    put(text, ",")?;
+    put_operand(text, bound, l)?;
+    put(text, ",")?;
+    put_operand(text, bound, y)?;
+    put(text, ")")
 }
 
 /// The fields of the first cell at the term, if there is one.
@@ -169,6 +195,81 @@ pub fn misfit_at(
     first_misfit(alloc, s.next_sym(), cell, bindings, fields)
 }
 
+/// What stands before a doubly linked segment, if the atom is one that is at the term.
+fn before_at(atom: &Atom, t: Term) -> Option<Term>
+    ensures { result ≡ before_at atom.now t }
+{
+    match atom {
+        Atom::Dll(v, p, _, _) if v.is(t) => Some(*p),
+        Atom::Points(..) | Atom::Ls(..) | Atom::Tree(_) | Atom::Dll(..) => None,
+    }
+}
+
+/// What stands before the first doubly linked segment at the term, if there is one.
+fn first_before(atoms: &[Numbered], t: Term) -> Option<Term>
+    ensures { result ≡ first_before atoms.now t }
+{
+    for a in atoms {
+        if let Some(p) = before_at(&a.atom, t) {
+            return Some(p);
+        }
+    }
+    None
+}
+
+/// What stands before a wanted doubly linked segment, and what is to. `None` exactly where nothing
+/// is at its root.
+fn met_before(s: &State, back: FieldId, v: Term, p: Term) -> Option<Misfit>
+    ensures { option_map (misfit_of s.now.next_sym) result ≡ met_before s.now back v p }
+{
+    let wanted = Met::Known(p);
+    if let Some(fields) = first_cell(s.atoms(), v) {
+        let there = match field_term(fields, back) {
+            Some(q) => Some(Met::Known(q)),
+            None => None,
+        };
+        return Some(Misfit { there, wanted });
+    }
+    let q = first_before(s.atoms(), v)?;
+    Some(Misfit {
+        there: Some(Met::Known(q)),
+        wanted,
+    })
+}
+
+/// Two terms that should be one for a doubly linked segment with these terms. `None` exactly where
+/// nothing is at its root, and it doesn't end there.
+fn misfit_of_double(s: &State, back: FieldId, v: Term, p: Term, l: Term, u: Term) -> Option<Misfit>
+    ensures { option_map (misfit_of s.now.next_sym) result
+        ≡ misfit_of_double s.now back (v, p, l, u) }
+{
+    if v.is(u) {
+        return Some(Misfit {
+            there: Some(Met::Known(p)),
+            wanted: Met::Known(l),
+        });
+    }
+    met_before(s, back, v, p)
+}
+
+/// Two terms that should be one for a wanted doubly linked segment. `None` exactly where one of its
+/// operands has no term, or there are no such terms.
+pub fn double_misfit(
+    s: &State,
+    bindings: &[Option<Term>],
+    back: FieldId,
+    x: Operand<Term>,
+    b: Operand<Term>,
+    l: Operand<Term>,
+    y: Operand<Term>,
+) -> Option<Misfit>
+    ensures { option_map (misfit_of s.now.next_sym) result
+        ≡ double_misfit s.now bindings.now back x b l y }
+{
+    let (v, p, m, u) = four(bindings, x, b, l, y)?;
+    misfit_of_double(s, back, v, p, m, u)
+}
+
 /// Appends a term that was met, where the next symbol has that number. An `Err` means out of
 /// memory.
 fn put_met(text: &mut Vec<u8>, next_sym: u32, met: Met) -> Result<(), AllocError>
@@ -196,8 +297,9 @@ fn put_misfit(text: &mut Vec<u8>, next_sym: u32, m: Misfit) -> Result<(), AllocE
     put_met(text, next_sym, m.wanted)
 }
 
-/// Appends what a wanted cell that doesn't fit wants. An `Err` means out of memory.
-fn put_cell(
+/// Appends what a wanted cell or doubly linked segment that doesn't fit wants. An `Err` means out of
+/// memory.
+fn put_unequal(
     text: &mut Vec<u8>,
     alloc: Global,
     p: &Program,
@@ -210,6 +312,11 @@ fn put_cell(
 {
     if let Conjunct::Points(_, x, fields) = c {
         if let Some(m) = misfit_at(alloc, s, bound.terms, x, fields)? {
+            return put_misfit(text, s.next_sym(), m);
+        }
+    }
+    if let Conjunct::Doubly(_, _, back, x, b, l, y) = c {
+        if let Some(m) = double_misfit(s, bound.terms, *back, *x, *b, *l, *y) {
             return put_misfit(text, s.next_sym(), m);
         }
     }
@@ -230,7 +337,7 @@ fn put_at_conjunct(
         (at_conjunct (program_of p.now) kind s.now (scope_of bound.entry) (conjunct_of c.now)) }
 {
     match kind {
-        Stuck::NotEqual => put_cell(text, alloc, p, s, bound, c),
+        Stuck::NotEqual => put_unequal(text, alloc, p, s, bound, c),
         _ => put_conjunct(text, p, bound, c),
     }
 }

@@ -18,7 +18,7 @@ use Rattle.sf_core.specs.Assertions.Sat.{Sat, SatOne}
 use Rattle.sf_core.specs.declared.assertion.Operand.{Operand}
 use Rattle.sf_core.specs.declared.assertion.Operand.TheVariants.{Known}
 use Rattle.sf_core.specs.declared.assertion.Test.{Test}
-use Rattle.sf_core.specs.Program.Syntax.{holds, points, segment, tree, choose, Level, Conjuncts, none, also}
+use Rattle.sf_core.specs.Program.Syntax.{holds, points, segment, doubly, tree, choose, Level, Conjuncts, none, also}
 use Rattle.sf_produce.specs.Add.{add_row, operands}
 use Rattle.sf_produce.specs.Checked.Laws.{AddKeepsGoals, HoldsAssumed, assuming}
 use Rattle.sf_rules.specs.Checked.Lemmas.{few-left}
@@ -149,6 +149,7 @@ assumed_branch_keeps_goals so s p given rest left shape row = go given.conjuncts
     go (also (holds q t) cs) below formed e = absurd (cc)
     go (also (points q x fs) cs) below formed e = absurd (cc)
     go (also (segment q next x y) cs) below formed e = absurd (cc)
+    go (also (doubly q next back x b l y) cs) below formed e = absurd (cc)
     go (also (tree q l r x) cs) below formed e = absurd (cc)
     go (also (choose q t this that) cs) below formed e = by_test (test_of_terms given.bindings t) refl e
       where
@@ -287,6 +288,7 @@ shown_branch_leaves_rest law so s p want names rest left shape row = go want.con
     go (also (holds q t) cs) shape e = absurd (cc)
     go (also (points q x fs) cs) shape e = absurd (cc)
     go (also (segment q next x y) cs) shape e = absurd (cc)
+    go (also (doubly q next back x b l y) cs) shape e = absurd (cc)
     go (also (tree q l r x) cs) shape e = absurd (cc)
     go (also (choose q t this that) cs) shape e = by_test (test_of_terms want.bindings t) refl e
       where

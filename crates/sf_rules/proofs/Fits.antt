@@ -6,7 +6,7 @@ use Rattle.std.proofs.Common.{◌≡◌, ℕ, ◌<◌, ◌≤◌, true, ap, List
 use Rattle.sf_base.specs.declared.limits.TheConstants.{FIELDS}
 use Rattle.sf_calls.specs.Changes.{changes_in}
 use Rattle.sf_core.specs.declared.fields.Links.{Links}
-use Rattle.sf_core.specs.Program.Syntax.{Conjunct, holds, points, segment, tree, choose, Level, level, Conjuncts, none, also}
+use Rattle.sf_core.specs.Program.Syntax.{Conjunct, holds, points, segment, doubly, tree, choose, Level, level, Conjuncts, none, also}
 use Rattle.sf_rules.specs.declared.few.TheConstants.{TOO_MANY}
 use Rattle.sf_rules.specs.First.{links_of}
 use Rattle.sf_rules.specs.Setting.{Setting}
@@ -31,6 +31,7 @@ abbrev mutual
   ConjunctFits links (holds q t) = Unit {0}
   ConjunctFits links (points q x fs) = length fs ≤ FIELDS
   ConjunctFits links (segment q next x y) = is_some links.tl ≡ true
+  ConjunctFits links (doubly q next back x b l y) = (is_some links.tl ≡ true) × (is_some links.pv ≡ true)
   ConjunctFits links (tree q left right x) = (is_some links.l ≡ true) × (is_some links.r ≡ true)
   ConjunctFits links (choose q t this that) = LevelFits links this × LevelFits links that
 
@@ -48,6 +49,7 @@ mutual
   formed-one links count (holds q t) f = tt
   formed-one links count (points q x fs) f = f.2
   formed-one links count (segment q next x y) f = ap is_some f.0
+  formed-one links count (doubly q next back x b l y) f = (ap is_some f.0, ap is_some f.1)
   formed-one links count (tree q left right x) f = (ap is_some f.0, ap is_some f.1)
   formed-one links count (choose q t this that) f =
       (formed-level links count this f.1, formed-level links count that f.2)

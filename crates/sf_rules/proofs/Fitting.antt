@@ -16,7 +16,7 @@ use Rattle.sf_core.specs.declared.assertion.Test.{Test}
 use Rattle.sf_core.specs.declared.assertion.Test.TheVariants.{True, Equal, Differ}
 use Rattle.sf_core.specs.declared.command.Expr.{Expr}
 use Rattle.sf_core.specs.declared.fields.Links.{Links}
-use Rattle.sf_core.specs.Program.Syntax.{Assertion, Block, done, then, Conjunct, holds, points, segment, tree, choose, Conjuncts, none, also, Level, level}
+use Rattle.sf_core.specs.Program.Syntax.{Assertion, Block, done, then, Conjunct, holds, points, segment, doubly, tree, choose, Conjuncts, none, also, Level, level}
 use Rattle.sf_rules.specs.First.{links_of}
 use Rattle.sf_rules.specs.Setting.{Setting}
 use Rattle.sf_rules.specs.Words.{pending_assertion, test_conjuncts, to_add, to_add_test, to_take, to_take_each}
@@ -46,6 +46,7 @@ module _ {E F : Type 0} (to : E → F) (links : Links) where
     conjunct-fits_with (points q x fs) f =
         subst (λ n. n ≤ FIELDS) (sym (length-map fs (λ (g : FieldId × Operand E). (g.0, operand_with to g.1)))) f
     conjunct-fits_with (segment q next x y) f = f
+    conjunct-fits_with (doubly q next back x b l y) f = f
     conjunct-fits_with (tree q left right x) f = f
     conjunct-fits_with (choose q t this that) f = (level-fits_with this f.0, level-fits_with that f.1)
 

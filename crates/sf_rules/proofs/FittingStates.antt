@@ -13,7 +13,7 @@ use Rattle.sf_rules.specs.Shape.{HasLinks, StateFits}
 use Rattle.sf_sym.specs.Below.{AllInAtom, AllInPairs, AllInState, AllPaired, IsBelow}
 use Rattle.sf_sym.specs.Cells.{apart_from_nil, handed, with_atom, with_cell, with_fields, without}
 use Rattle.sf_sym.specs.declared.atom.Atom.{Atom}
-use Rattle.sf_sym.specs.declared.atom.Atom.TheVariants.{Points, Ls, Tree}
+use Rattle.sf_sym.specs.declared.atom.Atom.TheVariants.{Points, Ls, Tree, Dll}
 use Rattle.sf_sym.specs.declared.atom.Numbered.{Numbered}
 use Rattle.sf_sym.specs.declared.term.Term.{Term}
 use Rattle.sf_sym.specs.Equalities.{atom_with, numbered_with, state_with}
@@ -79,6 +79,7 @@ links-with : (links : Links) (to : Term → Term) (x : Atom) → HasLinks links 
 links-with links to (Points t fields) h = tt
 links-with links to (Ls t u) h = h
 links-with links to (Tree t) h = h
+links-with links to (Dll v p l u) h = h
 
 links-replaced : (links : Links) (to : Term → Term) (xs : List Numbered)
     → AllByRecursion (λ (a : Numbered). HasLinks links a.atom) xs

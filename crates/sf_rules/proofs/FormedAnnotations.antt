@@ -27,9 +27,9 @@ use Rattle.sf_core.specs.declared.assertion.Test.TheVariants.{True, Equal, Diffe
 use Rattle.sf_core.specs.declared.command.Expr.{Expr}
 use Rattle.sf_core.specs.declared.fields.Links.{Links}
 use Rattle.sf_core.specs.Program.Formed.{AssertionWithin, ConjunctWithin, ConjunctsWithin, FieldsWithin, LevelWithin, OperandWithin, TestWithin, conjunct_scopes, conjuncts_scopes, is_made, level_scopes}
-use Rattle.sf_core.specs.Program.Links.{left_name, next_name, right_name}
+use Rattle.sf_core.specs.Program.Links.{back_name, left_name, next_name, right_name}
 use Rattle.sf_core.specs.Program.Named.{IsFirstNamed}
-use Rattle.sf_core.specs.Program.Syntax.{Assertion, Conjunct, holds, points, segment, tree, choose, Conjuncts, none, also, Level, level, Program}
+use Rattle.sf_core.specs.Program.Syntax.{Assertion, Conjunct, holds, points, segment, doubly, tree, choose, Conjuncts, none, also, Level, level, Program}
 use Rattle.sf_precise.specs.Checked.Laws.{DeterminedHasOrder, NeverTakenIsUndetermined, UndeterminedHasPlace}
 use Rattle.sf_precise.specs.Order.{IsOrderOf, IsOrdering}
 use Rattle.sf_rules.specs.Checked.Lemmas.Existentials.{conjuncts-exist}
@@ -118,6 +118,7 @@ mutual
   conjunct-more (holds q t) rest s c = c
   conjunct-more (points q x fs) rest s c = c
   conjunct-more (segment q next x y) rest s c = c
+  conjunct-more (doubly q next back x b l y) rest s c = c
   conjunct-more (tree q left right x) rest s c = c
   conjunct-more (choose q t this that) rest s c =
       level-more this (level_scopes that rest) s (level-more that rest s c)
@@ -125,6 +126,7 @@ mutual
 -- CONJUNCTS THAT MAY STAND IN A GOAL
 module _ (fields : List (List ℕ)) (V : Var → Type 0) (to : Expr → Term) (links : Links) (count : ℕ)
     (next_is : (f : FieldId) → IsFirstNamed fields next_name (Some f.0) → links.tl ≡ Some f)
+    (back_is : (f : FieldId) → IsFirstNamed fields back_name (Some f.0) → links.pv ≡ Some f)
     (left_is : (f : FieldId) → IsFirstNamed fields left_name (Some f.0) → links.l ≡ Some f)
     (right_is : (f : FieldId) → IsFirstNamed fields right_name (Some f.0) → links.r ≡ Some f)
     (few : length fields ≤ FIELDS) where
@@ -194,6 +196,14 @@ module _ (fields : List (List ℕ)) (V : Var → Type 0) (to : Expr → Term) (l
     )
     conjunct-formed made (segment q next x y) rest c h w =
         (next_is next w.0, operand-counted made x c w.1, operand-counted made y c w.2)
+    conjunct-formed made (doubly q next back x b l y) rest c h w = (
+      next_is next w.0,
+      back_is back w.1,
+      operand-counted made x c w.2,
+      operand-counted made b c w.3,
+      operand-counted made l c w.4,
+      operand-counted made y c w.5,
+    )
     conjunct-formed made (tree q left right x) rest c h w =
         (left_is left w.0, right_is right w.1, operand-counted made x c w.2)
     conjunct-formed made (choose q t this that) rest c h w = (
@@ -249,7 +259,8 @@ module _ (p : Program) (few : length p.fields ≤ FIELDS) (V : Var → Type 0) (
         (conjuncts_with to (conjuncts_of l))
     formed-level (level here cs) within named =
         level-formed p.fields V to (links_of p) (length unbound)
-        (λ f i. field-named p.fields next_name f i) (λ f i. field-named p.fields left_name f i)
+        (λ f i. field-named p.fields next_name f i) (λ f i. field-named p.fields back_name f i)
+        (λ f i. field-named p.fields left_name f i)
         (λ f i. field-named p.fields right_name f i) few [] (level here cs) [] (λ n e. absurd (cc))
         (λ s i. subst (λ k. s.first + s.count ≤ k) (sym (length-replicate (length a.names) no_term))
         (named s i)) within

@@ -19,7 +19,7 @@ use Rattle.sf_core.specs.declared.command.Expr.{Expr}
 use Rattle.sf_core.specs.declared.command.Expr.TheVariants.{Nil as ENil}
 use Rattle.sf_core.specs.declared.fields.Links.{Links}
 use Rattle.sf_core.specs.Program.Syntax.{Assertion, Block, Command, assign, look_up, mutate, new, dispose, if, while, call, fork, with, Procedure}
-use Rattle.sf_normal.specs.Checked.Laws.{AbsurdKeepsGoals, DropKeepsGoals, ForceKeepsGoals, SplitKeepsGoals, UnrollKeepsGoals}
+use Rattle.sf_normal.specs.Checked.Laws.{AbsurdKeepsGoals, BackKeepsGoals, DropKeepsGoals, ForceKeepsGoals, SplitKeepsGoals, UnrollKeepsGoals}
 use Rattle.sf_produce.specs.Add.{operands}
 use Rattle.sf_rules.proofs.ShapedRows.{ProgramFits}
 use Rattle.sf_rules.specs.Checked.LawsOfCommands.{AssignFollowsEvent, DisposeFollowsEvent, ElseFollowsTest, LookFollowsEvent, MutateFollowsEvent, NewFollowsEvent, ThenFollowsTest, before_command}
@@ -28,10 +28,10 @@ use Rattle.sf_rules.specs.Checked.Lemmas.{few-left}
 use Rattle.sf_rules.specs.Checked.Lemmas.CommandChildren.{IsOrdered, Stays, assign-stays, branch-stays, dispose-stays, look-stays, mutate-stays, new-stays}
 use Rattle.sf_rules.specs.Checked.Lemmas.FirstVariables.{symbols-order}
 use Rattle.sf_rules.specs.Checked.Lemmas.Forms.{adding-assuming, body-assuming, body-run, form-command, items-formed_run, taking-showing}
-use Rattle.sf_rules.specs.Checked.Lemmas.StateChildren.{AllStay, absurd-stays, add-stays, choice-stays, drop-stays, force-stays, split-stays, unroll-stays}
+use Rattle.sf_rules.specs.Checked.Lemmas.StateChildren.{AllStay, absurd-stays, add-stays, back-stays, choice-stays, drop-stays, force-stays, split-stays, unroll-stays}
 use Rattle.sf_rules.specs.Checked.Lemmas.Subtracting.{Lists, chosen-lists, subtract-lists}
 use Rattle.sf_sym.specs.Checked.Lemmas.Updates.{remove_vars-order, set_vars-order}
-use Rattle.sf_rules.specs.Checked.RowCases.{Rows, RowsHaveCases, by_absurd, by_add, by_again, by_around, by_assign, by_call, by_choice, by_choice_assumed, by_choice_shown, by_dispose, by_drop, by_end, by_enter, by_exit, by_force, by_fork, by_give, by_look, by_loop, by_mutate, by_new, by_return, by_split, by_step, by_unroll, goal_of}
+use Rattle.sf_rules.specs.Checked.RowCases.{Rows, RowsHaveCases, by_absurd, by_add, by_again, by_around, by_assign, by_back, by_call, by_choice, by_choice_assumed, by_choice_shown, by_dispose, by_drop, by_end, by_enter, by_exit, by_force, by_fork, by_give, by_look, by_loop, by_mutate, by_new, by_return, by_split, by_step, by_unroll, goal_of}
 use Rattle.sf_rules.specs.First.{first_goal, links_of, nils, own_vars, symbols, nil_for, with_held, with_nil}
 use Rattle.sf_rules.specs.Resources.{variables_of, variables_from}
 use Rattle.sf_rules.specs.Checked.Rows.Branches.{branch_row}
@@ -60,6 +60,7 @@ pub record RowLaws : Type 0 where
   pub force_law : ForceKeepsGoals
   pub split_law : SplitKeepsGoals
   pub unroll_law : UnrollKeepsGoals
+  pub back_law : BackKeepsGoals
   pub assign_law : AssignFollowsEvent
   pub look_law : LookFollowsEvent
   pub mutate_law : MutateFollowsEvent
@@ -403,7 +404,7 @@ module _ (laws : RowLaws) (d : Setting) (fits : ProgramFits d) (goal : Goal) (le
     one f k = one-command s rest left c here-orderly f k
 
   cases-orderly : Rows d goal left → AllOrderly left
-  unfolding AbsurdKeepsGoals DropKeepsGoals ForceKeepsGoals SplitKeepsGoals UnrollKeepsGoals AssignFollowsEvent LookFollowsEvent MutateFollowsEvent NewFollowsEvent DisposeFollowsEvent AssumeKeepsGoals AssumedBranchKeepsGoals SubtractionLeavesRest ShownBranchLeavesRest
+  unfolding AbsurdKeepsGoals DropKeepsGoals ForceKeepsGoals SplitKeepsGoals UnrollKeepsGoals BackKeepsGoals AssignFollowsEvent LookFollowsEvent MutateFollowsEvent NewFollowsEvent DisposeFollowsEvent AssumeKeepsGoals AssumedBranchKeepsGoals SubtractionLeavesRest ShownBranchLeavesRest
   cases-orderly (by_absurd e) =
       state-orderly (laws.absurd_law goal left h.shape e).follow (absurd-stays goal left e)
   cases-orderly (by_drop a e) =
@@ -414,6 +415,8 @@ module _ (laws : RowLaws) (d : Setting) (fits : ProgramFits d) (goal : Goal) (le
       state-orderly (laws.split_law x y goal left h.shape e).follow (split-stays goal left x y order e)
   cases-orderly (by_unroll a e) =
       state-orderly (laws.unroll_law a goal left h.shape e).follow (unroll-stays goal left a order e)
+  cases-orderly (by_back a e) =
+      state-orderly (laws.back_law a goal left h.shape e).follow (back-stays goal left a order e)
   cases-orderly (by_assign p x e rest is row) =
       let c = assign p x e in
       one c rest is (laws.assign_law s rest left p x e (here c rest is).shape row).follow

@@ -22,11 +22,11 @@ use Rattle.sf_rules.specs.Checked.LawsOfCommands.{before_command}
 use Rattle.sf_rules.specs.Checked.LawsOfConjuncts.{LeftToShow, ShownBranchLeavesRest, SubtractionLeavesRest, showing}
 use Rattle.sf_rules.specs.Checked.Lemmas.{few-left}
 use Rattle.sf_rules.specs.Checked.Lemmas.CommandChildren.{IsOrdered, Stays, assign-stays, branch-stays, dispose-stays, look-stays, mutate-stays, new-stays}
-use Rattle.sf_rules.specs.Checked.Lemmas.StateChildren.{AllStay, absurd-stays, add-stays, choice-stays, drop-stays, force-stays, split-stays, unroll-stays}
+use Rattle.sf_rules.specs.Checked.Lemmas.StateChildren.{AllStay, absurd-stays, add-stays, back-stays, choice-stays, drop-stays, force-stays, split-stays, unroll-stays}
 use Rattle.sf_rules.specs.Checked.Lemmas.Subtracting.{Lists, chosen-lists, subtract-lists}
 use Rattle.sf_rules.specs.Checked.Lemmas.TodoReads.{adding-reads, each-reads, run-reads, taking-reads}
 use Rattle.sf_rules.specs.Checked.Lemmas.VariableTerms.{all-listed, all-listed_here, remove_all-listed}
-use Rattle.sf_rules.specs.Checked.RowCases.{Rows, by_absurd, by_add, by_again, by_around, by_assign, by_call, by_choice, by_choice_assumed, by_choice_shown, by_dispose, by_drop, by_end, by_enter, by_exit, by_force, by_fork, by_give, by_look, by_loop, by_mutate, by_new, by_return, by_split, by_step, by_unroll, goal_of}
+use Rattle.sf_rules.specs.Checked.RowCases.{Rows, by_absurd, by_add, by_again, by_around, by_assign, by_back, by_call, by_choice, by_choice_assumed, by_choice_shown, by_dispose, by_drop, by_end, by_enter, by_exit, by_force, by_fork, by_give, by_look, by_loop, by_mutate, by_new, by_return, by_split, by_step, by_unroll, goal_of}
 use Rattle.sf_rules.specs.HasVariables.{HasNone, HasVariables, TodoReadsIn, WholeReadsIn, with_those, without_those}
 use Rattle.sf_rules.specs.Callee.{term_after, term_before}
 use Rattle.sf_rules.specs.Resources.{variables_from, variables_of}
@@ -217,6 +217,7 @@ module _ (laws : RowLaws) (d : Setting) (goal : Goal) (left : List Goal) (h : Is
   cases-have (by_force a e) = stays-have p goal h.variables left (force-stays goal left a order e)
   cases-have (by_split t u e) = stays-have p goal h.variables left (split-stays goal left t u order e)
   cases-have (by_unroll a e) = stays-have p goal h.variables left (unroll-stays goal left a order e)
+  cases-have (by_back a e) = stays-have p goal h.variables left (back-stays goal left a order e)
   cases-have (by_assign q x e rest is row) =
       let v = has (run (assign q x e) ∷ rest) is in
       command-have p s (assign q x e) rest v rest v.reads.1 left (assign-stays s rest left q x e order row)

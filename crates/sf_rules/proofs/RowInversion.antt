@@ -12,7 +12,7 @@ use Rattle.sf_core.specs.declared.command.Expr.{Expr}
 use Rattle.sf_core.specs.Program.Syntax.{Assertion, Block, Command, assign, look_up, mutate, new, dispose, if, while, call, fork, with, Procedure}
 use Rattle.sf_rules.specs.Rules.{has_numbers}
 use Rattle.sf_rules.specs.Checked.Lemmas.{few-left}
-use Rattle.sf_rules.specs.Checked.RowCases.{Rows, by_absurd, by_drop, by_force, by_split, by_unroll, by_assign, by_look, by_mutate, by_new, by_dispose, by_choice, by_loop, by_call, by_fork, by_enter, by_add, by_choice_assumed, by_step, by_choice_shown, by_give, by_around, by_again, by_exit, by_return, by_end, RowsHaveCases}
+use Rattle.sf_rules.specs.Checked.RowCases.{Rows, by_absurd, by_drop, by_force, by_split, by_unroll, by_back, by_assign, by_look, by_mutate, by_new, by_dispose, by_choice, by_loop, by_call, by_fork, by_enter, by_add, by_choice_assumed, by_step, by_choice_shown, by_give, by_around, by_again, by_exit, by_return, by_end, RowsHaveCases}
 use Rattle.sf_rules.specs.Checked.Rows.Branches.{branch_row}
 use Rattle.sf_rules.specs.Checked.Rows.Calls.{called, call_row, forked, fork_row, give_row}
 use Rattle.sf_rules.specs.Checked.Rows.Commands.{assign_row, look_row, mutate_row, new_row, dispose_row}
@@ -246,6 +246,7 @@ module _ (d : Setting) (g : Goal) (left : List Goal) where
   tag-case (t.Force a) e = by_force a e
   tag-case (t.Split x y) e = by_split x y e
   tag-case (t.Unroll a) e = by_unroll a e
+  tag-case (t.Back a) e = by_back a e
   tag-case t.Assign e = assign-case e
   tag-case (t.Look a) e = look-case a e
   tag-case (t.Mutate a) e = mutate-case a e

@@ -11,8 +11,8 @@ use Rattle.sf_core.specs.Assertions.Occurs.{OccursInAll, OccursInOne}
 use Rattle.sf_core.specs.declared.assertion.Operand.{Operand}
 use Rattle.sf_core.specs.declared.assertion.Operand.TheVariants.{Known, Exists}
 use Rattle.sf_core.specs.declared.assertion.Test.TheVariants.{True, Equal, Differ}
-use Rattle.sf_core.specs.Program.Syntax.{Conjunct, holds, points, segment, tree, choose, Conjuncts, none, also}
-use Rattle.sf_produce.specs.Add.{add_first, add_row, added, goal_after, met, met_both, met_existential, met_fields}
+use Rattle.sf_core.specs.Program.Syntax.{Conjunct, holds, points, segment, doubly, tree, choose, Conjuncts, none, also}
+use Rattle.sf_produce.specs.Add.{add_first, add_row, added, goal_after, met, met_both, met_existential, met_fields, met_four}
 use Rattle.sf_rules.specs.Checked.Lemmas.FewNew.{few-existentials, few-one}
 use Rattle.sf_rules.specs.First.{links_of}
 use Rattle.sf_rules.specs.Setting.{Setting}
@@ -23,7 +23,7 @@ use Rattle.sf_rules.proofs.ShapedGoals.{AllKeep, Keeps, Rises, apart-keeps, equa
 use Rattle.sf_rules.proofs.Fits.{ConjunctFits, ConjunctsFit, IsFitting, ItemsFit}
 use Rattle.sf_sym.specs.Below.{AllInItem, AllPaired, IsBelow}
 use Rattle.sf_sym.specs.Cells.{with_atom, with_cell}
-use Rattle.sf_sym.specs.declared.atom.Atom.TheVariants.{Ls, Tree}
+use Rattle.sf_sym.specs.declared.atom.Atom.TheVariants.{Ls, Tree, Dll}
 use Rattle.sf_sym.specs.declared.term.Term.{Term}
 use Rattle.sf_sym.specs.declared.term.Term.TheVariants.{Sym}
 use Rattle.sf_sym.specs.Fields.{put_term}
@@ -92,6 +92,38 @@ module _ (d : Setting) where
         },
         below-more first.state.next_sym (met first.state first.bindings y).state.next_sym two.0.kept first.term one.1,
         two.1,
+      )
+
+  -- the terms of four operands that are met
+  abbrev FourBelow : ℕ → State → List (Option Term) → (x b l y : Operand Term) → Type 0
+  FourBelow k s bindings x b l y =
+      let m = met_four s bindings x b l y in
+      IsBelow k m.from × IsBelow k m.before × IsBelow k m.last × IsBelow k m.to
+
+  four-meet : (n : ℕ) (s : State) (bindings : List (Option Term)) (x b l y : Operand Term) → StateShaped d s
+      → Bound s.next_sym bindings → n ≤ s.next_sym → OperandBelow n x → OperandBelow n b → OperandBelow n l
+      → OperandBelow n y
+      → Meets d s 4 (met_four s bindings x b l y).state (met_four s bindings x b l y).bindings
+      × FourBelow (met_four s bindings x b l y).state.next_sym s bindings x b l y
+  four-meet n s bindings x b l y h w k o p q r =
+      let first = met_both s bindings x b in
+      let second = met_both first.state first.bindings l y in
+      let one = both-meet n s bindings x b h w k o p in
+      let two = both-meet n first.state first.bindings l y one.0.shaped one.0.bound (omega (arith, k, one.0.kept)) q r in
+      let later = below-more first.state.next_sym second.state.next_sym two.0.kept in (
+        record {
+          shaped = two.0.shaped;
+          bound = two.0.bound;
+          kept = omega (arith, one.0.kept, two.0.kept);
+          symbols =
+              let a = few-one x in
+              let c = few-one b in
+              let e = few-one l in
+              let f = few-one y in
+              omega (arith, one.0.symbols, two.0.symbols, a, c, e, f);
+          atoms = two.0.atoms ∙ one.0.atoms;
+        },
+        (later first.one one.1, later first.two one.2, two.1, two.2),
       )
 
   fields-meet : (n : ℕ) (s : State) (bindings : List (Option Term)) (fs : List (FieldId × Operand Term))
@@ -229,6 +261,18 @@ module _ (d : Setting) (s : State) (p : Place) (bindings : List (Option Term)) (
       (atom-shaped d m.state k.0.shaped (Ls m.one m.two) (k.1, k.2) a.fits) k.0.bound
       (meets-rise (one_if_existential x + one_if_existential y) m.state m.bindings k.0 (sides-few x y)
       (with_atom (Ls m.one m.two) m.state) refl (omega arith)))
+  added-keeps (doubly q next back x b l y) child a e =
+      let c = doubly q next back x b l y in
+      let m = met_four s bindings x b l y in
+      let k = four-meet d s.next_sym s bindings x b l y a.shaped a.bound (omega arith)
+      (operand-one s.next_sym x (λ t i. a.first t (inl i)))
+      (operand-one s.next_sym b (λ t i. a.first t (inr (inl i))))
+      (operand-one s.next_sym l (λ t i. a.first t (inr (inr (inl i)))))
+      (operand-one s.next_sym y (λ t i. a.first t (inr (inr (inr i))))) in
+      let x2 = Dll m.from m.before m.last m.to in
+      subst (Keeps d s) (same_Some _ child e)
+      (after-keeps c a (with_atom x2 m.state) m.bindings (atom-shaped d m.state k.0.shaped x2 k.1 a.fits) k.0.bound
+      (meets-rise 4 m.state m.bindings k.0 (omega arith) (with_atom x2 m.state) refl (omega arith)))
   added-keeps (tree q l r x) child a e =
       let c = tree q l r x in
       let m = met s bindings x in

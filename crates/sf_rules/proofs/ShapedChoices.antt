@@ -9,7 +9,7 @@ use Rattle.sf_core.specs.declared.assertion.Operand.{Operand}
 use Rattle.sf_core.specs.declared.assertion.Operand.TheVariants.{Known}
 use Rattle.sf_core.specs.declared.assertion.Test.{Test}
 use Rattle.sf_core.specs.declared.fields.Links.{Links}
-use Rattle.sf_core.specs.Program.Syntax.{holds, points, segment, tree, choose, Conjuncts, none, also, Level}
+use Rattle.sf_core.specs.Program.Syntax.{holds, points, segment, doubly, tree, choose, Conjuncts, none, also, Level}
 use Rattle.sf_rules.specs.First.{links_of}
 use Rattle.sf_rules.specs.Checked.Rows.Branches.{branch_row, chosen}
 use Rattle.sf_rules.specs.Setting.{Setting}
@@ -70,6 +70,7 @@ module _ (P : Term → Type 0) (links : Links) (so : Bool) (s : State) (p : Pend
   chosen-shaped (also (holds q t) cs) left i e = absurd (cc)
   chosen-shaped (also (points q x fs) cs) left i e = absurd (cc)
   chosen-shaped (also (segment q next x y) cs) left i e = absurd (cc)
+  chosen-shaped (also (doubly q next back x b l y) cs) left i e = absurd (cc)
   chosen-shaped (also (tree q l r x) cs) left i e = absurd (cc)
   chosen-shaped (also (choose place t this that) rest) left i e =
       let m = and_then-left (test_of_terms p.bindings t)

@@ -1,4 +1,4 @@
--- The rows that work out what is known keep the shape of goals: absurd, drop, force, split, unroll.
+-- The rows that work out what is known keep the shape of goals: absurd, drop, force, split, unroll, back.
 -- Names: `ROW-keeps`.
 use Rattle.std.specs.Option.{option_and_then, option_map}
 use Rattle.std.specs.Prelude.{◌&&◌, not}
@@ -7,17 +7,18 @@ use Rattle.std.proofs.lemmas.Option.{same_Some}
 use Rattle.sf_base.proofs.Bools.{and-left, and-right}
 use Rattle.sf_base.specs.declared.ids.FieldId.{FieldId}
 use Rattle.sf_core.specs.declared.fields.Links.{Links}
-use Rattle.sf_normal.specs.Knowledge.{absurd_row, drop_row, force_row, split_row, unroll_row, unrolled, unrolled_segment, unrolled_tree}
+use Rattle.sf_normal.specs.Knowledge.{absurd_row, back_one, back_row, drop_row, force_row, split_row, unroll_row, unrolled, unrolled_double, unrolled_last, unrolled_segment, unrolled_tree}
+use Rattle.sf_rules.specs.Checked.Lemmas.RowParts.{cond-then}
 use Rattle.sf_rules.specs.First.{links_of}
 use Rattle.sf_rules.specs.Setting.{Setting}
 use Rattle.sf_rules.proofs.FittingStates.{StateShaped, atom-shaped, cell-shaped, symbols-shaped, without-shaped}
 use Rattle.sf_rules.proofs.ShapedGoals.{AllKeep, Rises, apart-keeps, equal-keeps, keeps-state, none-keep, one-keeps, rises-none, state-shaped, two-keep}
 use Rattle.sf_rules.specs.Shape.{HasLinks}
 use Rattle.sf_rules.proofs.Fits.{IsFitting}
-use Rattle.sf_sym.specs.Below.{AllInAtom, IsBelow, is_below}
+use Rattle.sf_sym.specs.Below.{AllInAtom, AllPaired, IsBelow, is_below}
 use Rattle.sf_sym.specs.Cells.{atom_at, with_atom, with_cell, without}
 use Rattle.sf_sym.specs.declared.atom.Atom.{Atom}
-use Rattle.sf_sym.specs.declared.atom.Atom.TheVariants.{Points, Ls, Tree}
+use Rattle.sf_sym.specs.declared.atom.Atom.TheVariants.{Points, Ls, Tree, Dll}
 use Rattle.sf_sym.specs.declared.term.Term.{Term}
 use Rattle.sf_sym.specs.declared.term.Term.TheVariants.{Sym}
 use Rattle.sf_sym.specs.Equalities.{assumed_apart, assumed_equal}
@@ -73,11 +74,55 @@ module _ (d : Setting) (s : State) (h : StateShaped d s) where
       subst Unrolls (same_Some (with_atom (Tree second) (with_atom (Tree first) cell)) s2 e)
       (four, record { kept = omega arith; symbols = omega arith; atoms = omega arith })
 
+  -- the two fields of a cell of a doubly linked segment are below
+  double_fields : (next back : FieldId) (t u : Term) → IsBelow (s.next_sym + 1) t → IsBelow (s.next_sym + 1) u
+      → AllPaired (IsBelow (s.next_sym + 1)) (put_term next t (put_term back u []))
+  double_fields next back t u b c =
+      put-all (IsBelow (s.next_sym + 1)) next t (put_term back u []) b
+      (put-all (IsBelow (s.next_sym + 1)) back u [] c tt)
+
+  double-unrolls : (next back : Option FieldId) (t p l u : Term) (s2 : State)
+      → AllInAtom (IsBelow s.next_sym) (Dll t p l u) → HasLinks (links_of d.program) (Dll t p l u)
+      → unrolled_double next back t p l u s ≡ Some s2 → Unrolls s2
+  double-unrolls None back t p l u s2 b k e = absurd (cc)
+  double-unrolls (Some next) None t p l u s2 b k e = absurd (cc)
+  double-unrolls (Some next) (Some back) t p l u s2 b k e =
+      let rest = Sym s.next_sym in
+      let here = symbol s.next_sym (s.next_sym + 1) (omega arith) in
+      let fields = put_term next rest (put_term back p []) in
+      let cell = with_cell (with_symbols 1 s) t fields in
+      let one = symbols-shaped d s h 1 in
+      let two = cell-shaped d (with_symbols 1 s) one t fields (later 1 t b.0)
+      (double_fields next back rest p here (later 1 p b.1)) in
+      let three = atom-shaped d cell two (Dll rest t l u) (here, later 1 t b.0, later 1 l b.2, later 1 u b.3) k in
+      subst Unrolls (same_Some (with_atom (Dll rest t l u) cell) s2 e)
+      (three, record { kept = omega arith; symbols = omega arith; atoms = omega arith })
+
+  -- from behind
+  pub last-unrolls : (next back : Option FieldId) (t p l u : Term) (s2 : State)
+      → AllInAtom (IsBelow s.next_sym) (Dll t p l u) → HasLinks (links_of d.program) (Dll t p l u)
+      → unrolled_last next back t p l u s ≡ Some s2 → Unrolls s2
+  last-unrolls None back t p l u s2 b k e = absurd (cc)
+  last-unrolls (Some next) None t p l u s2 b k e = absurd (cc)
+  last-unrolls (Some next) (Some back) t p l u s2 b k e =
+      let before = Sym s.next_sym in
+      let here = symbol s.next_sym (s.next_sym + 1) (omega arith) in
+      let fields = put_term next u (put_term back before []) in
+      let rest = with_atom (Dll t p before l) (with_symbols 1 s) in
+      let one = symbols-shaped d s h 1 in
+      let two = atom-shaped d (with_symbols 1 s) one (Dll t p before l)
+      (later 1 t b.0, later 1 p b.1, here, later 1 l b.2) k in
+      let three = cell-shaped d rest two l fields (later 1 l b.2)
+      (double_fields next back u before (later 1 u b.3) here) in
+      subst Unrolls (same_Some (with_cell rest l fields) s2 e)
+      (three, record { kept = omega arith; symbols = omega arith; atoms = omega arith })
+
   unrolls : (links : Links) (x : Atom) (s2 : State) → AllInAtom (IsBelow s.next_sym) x
       → HasLinks (links_of d.program) x → unrolled links x s ≡ Some s2 → Unrolls s2
   unrolls links (Points t fields) s2 b l e = absurd (cc)
   unrolls links (Ls t u) s2 b l e = segment-unrolls links.tl t u s2 b.0 b.1 l e
   unrolls links (Tree t) s2 b l e = tree-unrolls links.l links.r t s2 b l e
+  unrolls links (Dll t p m u) s2 b l e = double-unrolls links.tl links.pv t p m u s2 b l e
 
 module _ (d : Setting) (goal : Goal) (left : List Goal) (h : IsFitting d goal) where
   abbrev s : State
@@ -186,3 +231,31 @@ module _ (d : Setting) (goal : Goal) (left : List Goal) (h : IsFitting d goal) w
       go (Some x) there i =
           both x (ends x) (atom-below a x there)
           (at-all (HasLinks (links_of d.program)) s.atoms a x there h.state.atoms) i
+
+  pub back-keeps : (a : ℕ) → back_row goal a ≡ Some left → AllKeep d s left
+  back-keeps a row = go (atom_at s.atoms a) refl row
+    where
+      made : (t p l u : Term) (m : Option State) → AllInAtom (IsBelow s.next_sym) (Dll t p l u)
+          → HasLinks (links_of d.program) (Dll t p l u) → unrolled_last s.links.tl s.links.pv t p l u (record s { atoms = without s.atoms a }) ≡ m
+          → option_map (λ s2. at_state goal s2 ∷ []) m ≡ Some left → AllKeep d s left
+      made t p l u None b k i e = absurd (cc)
+      made t p l u (Some s2) b k i e =
+          let z = last-unrolls d (record s { atoms = without s.atoms a }) (without-shaped d s (state-shaped d goal h) a) s.links.tl s.links.pv
+          t p l u s2 b k i in
+          one-keeps d s (at_state goal s2) left e (keeps-state d goal s2 h z.0
+          (record { kept = z.1.kept; symbols = z.1.symbols; atoms = z.1.atoms }))
+
+      step : (x : Atom) → AllInAtom (IsBelow s.next_sym) x → HasLinks (links_of d.program) x
+          → back_one goal a x ≡ Some left → AllKeep d s left
+      step (Points t fields) b k i = absurd (cc)
+      step (Ls t u) b k i = absurd (cc)
+      step (Tree t) b k i = absurd (cc)
+      step (Dll t p l u) b k i =
+          made t p l u (unrolled_last s.links.tl s.links.pv t p l u (record s { atoms = without s.atoms a })) b k refl
+          (cond-then (differs s t u) _ left i).1
+
+      go : (m : Option Atom) → atom_at s.atoms a ≡ m → option_and_then (back_one goal a) m ≡ Some left
+          → AllKeep d s left
+      go None there i = absurd (cc)
+      go (Some x) there i =
+          step x (atom-below a x there) (at-all (HasLinks (links_of d.program)) s.atoms a x there h.state.atoms) i

@@ -16,7 +16,7 @@ use Rattle.sf_core.specs.Program.Syntax.{Assertion, Block, Call, while, call, fo
 use Rattle.sf_produce.specs.Add.{operands}
 use Rattle.sf_rules.specs.declared.few.TheConstants.{TOO_MANY}
 use Rattle.sf_rules.specs.Checked.Lemmas.{few-left}
-use Rattle.sf_rules.specs.Checked.RowCases.{Rows, by_absurd, by_add, by_again, by_around, by_assign, by_call, by_choice, by_choice_assumed, by_choice_shown, by_dispose, by_drop, by_end, by_enter, by_exit, by_force, by_fork, by_give, by_look, by_loop, by_mutate, by_new, by_return, by_split, by_step, by_unroll, goal_of}
+use Rattle.sf_rules.specs.Checked.RowCases.{Rows, by_absurd, by_add, by_again, by_around, by_assign, by_back, by_call, by_choice, by_choice_assumed, by_choice_shown, by_dispose, by_drop, by_end, by_enter, by_exit, by_force, by_fork, by_give, by_look, by_loop, by_mutate, by_new, by_return, by_split, by_step, by_unroll, goal_of}
 use Rattle.sf_rules.specs.Callee.{term_after, term_before}
 use Rattle.sf_rules.specs.Checked.Rows.Loops.{after_loop, body_once}
 use Rattle.sf_rules.specs.Rules.{unknown_in}
@@ -30,7 +30,7 @@ use Rattle.sf_rules.proofs.ShapedAdds.{add-keeps}
 use Rattle.sf_rules.proofs.ShapedChoices.{choice_assumed-keeps, choice_shown-keeps}
 use Rattle.sf_rules.proofs.ShapedCommands.{assign-keeps, choice-keeps, dispose-keeps, look-keeps, mutate-keeps, new-keeps}
 use Rattle.sf_rules.proofs.ShapedGoals.{AllKeep, Rises, keeps-goal, none-keep, rest-below, rises-none, state-shaped}
-use Rattle.sf_rules.proofs.ShapedKnown.{absurd-keeps, drop-keeps, force-keeps, split-keeps, unroll-keeps}
+use Rattle.sf_rules.proofs.ShapedKnown.{absurd-keeps, back-keeps, drop-keeps, force-keeps, split-keeps, unroll-keeps}
 use Rattle.sf_rules.proofs.ShapedTakes.{step-keeps}
 use Rattle.sf_rules.specs.Shape.{AnnotationFits}
 use Rattle.sf_rules.proofs.Fits.{IsFitting, ItemsFit}
@@ -333,6 +333,7 @@ module _ (d : Setting) (fits : ProgramFits d) (goal : Goal) (left : List Goal) (
   cases-keep (by_force a e) = force-keeps d goal left h a e
   cases-keep (by_split x y e) = split-keeps d goal left h x y e
   cases-keep (by_unroll a e) = unroll-keeps d goal left h a e
+  cases-keep (by_back a e) = back-keeps d goal left h a e
   cases-keep (by_assign p x e rest is row) = assign-keeps d goal.state rest left p x e (front _ is) row
   cases-keep (by_look a p x e f rest is row) = look-keeps d goal.state rest left p x e f a (front _ is) row
   cases-keep (by_mutate a p e f v rest is row) = mutate-keeps d goal.state rest left p e f v a (front _ is) row

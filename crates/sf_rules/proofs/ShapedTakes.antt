@@ -7,15 +7,16 @@ use Rattle.sf_base.proofs.Options.{some-holds}
 use Rattle.sf_base.specs.declared.ids.FieldId.{FieldId}
 use Rattle.sf_base.specs.declared.limits.TheConstants.{FIELDS}
 use Rattle.sf_base.specs.declared.place.Place.{Place}
+use Rattle.sf_consume.specs.declared.wanted.WantedDouble.{WantedDouble}
 use Rattle.sf_consume.specs.declared.wanted.WantedList.{WantedList}
 use Rattle.sf_consume.specs.declared.wanted.WantedTree.{WantedTree}
-use Rattle.sf_consume.specs.Subtract.{Fit, Step, Want, apart_step, bind_step, binding, both, cell_step, empty_step, equality, exact_step, exact_there, first_by, first_fit, first_of, fit_existential, fit_field, fit_fields, fit_known, fit_new, fitting, handed_cell, head_step, head_there, inequality, is_same_shape, join_step, join_there, joined, link, linked, list_from, new_symbols, node_step, one_binding, removed, removed_if, same_step, subtracted, tree_from, unbound, wanted_cell, wanted_ends, wanted_list, wanted_shape, wanted_tree}
+use Rattle.sf_consume.specs.Subtract.{Fit, Step, Want, apart_step, bind_step, binding, both, cell_step, double_cell, double_from, double_head_step, double_head_there, double_join_step, double_join_there, double_joined, empty_step, equality, exact_step, exact_there, first_by, first_fit, first_of, fit_existential, fit_field, fit_fields, fit_known, fit_new, fitting, four, handed_cell, head_step, head_there, inequality, is_same_shape, join_step, join_there, joined, link, linked, list_from, list_head_step, list_join_step, new_symbols, node_step, one_binding, removed, removed_if, same_step, subtracted, tree_from, unbound, wanted_cell, wanted_double, wanted_list, wanted_shape, wanted_tree}
 use Rattle.sf_consume.specs.Wants.{still_wanted, wanting}
 use Rattle.sf_core.specs.Assertions.Occurs.{OccursInAll, OccursInOne}
 use Rattle.sf_core.specs.declared.assertion.Operand.{Operand}
 use Rattle.sf_core.specs.declared.assertion.Operand.TheVariants.{Known, Exists}
 use Rattle.sf_core.specs.declared.assertion.Test.TheVariants.{Equal, Differ}
-use Rattle.sf_core.specs.Program.Syntax.{Conjunct, holds, points, segment, tree, Conjuncts, none, also}
+use Rattle.sf_core.specs.Program.Syntax.{Conjunct, holds, points, segment, doubly, tree, Conjuncts, none, also}
 use Rattle.sf_rules.specs.First.{links_of}
 use Rattle.sf_rules.specs.Checked.Lemmas.{few-left}
 use Rattle.sf_rules.specs.Checked.Rows.Take.{subtract_row}
@@ -30,7 +31,7 @@ use Rattle.sf_sym.specs.Below.{AllInAtom, AllPaired, IsBelow}
 use Rattle.sf_sym.specs.Cells.{atom_at, cell_at, handed}
 use Rattle.sf_sym.specs.Decided.{term_of}
 use Rattle.sf_sym.specs.declared.atom.Atom.{Atom}
-use Rattle.sf_sym.specs.declared.atom.Atom.TheVariants.{Points, Ls, Tree}
+use Rattle.sf_sym.specs.declared.atom.Atom.TheVariants.{Points, Ls, Tree, Dll}
 use Rattle.sf_sym.specs.declared.tag.Tag.{Tag}
 use Rattle.sf_sym.specs.declared.tag.Tag.TheVariants as t
 use Rattle.sf_sym.specs.declared.term.Term.{Term}
@@ -40,6 +41,7 @@ use Rattle.sf_sym.specs.Goal.{Item, take, Goal, one_goal, taking}
 use Rattle.sf_sym.specs.Checked.Lemmas.AtomLists.{at-all, at-cell}
 use Rattle.sf_sym.specs.Checked.Lemmas.Below.{below-more, below-symbol, paired-weaker, put-all}
 use Rattle.sf_sym.specs.Checked.Lemmas.CellFields.{field-all}
+use Rattle.sf_sym.specs.Known.{is_nothing}
 use Rattle.sf_sym.specs.Pending.{Pending}
 use Rattle.sf_sym.specs.State.{State}
 use Rattle.sf_sym.specs.Tests.{differs, same_term}
@@ -64,6 +66,9 @@ first-all P None q h g = g
 first-all P (Some x) q h g = h
 
 -- OPERANDS
+abbrev FourBelow : ℕ → Term × Term × Term × Term → Type 0
+FourBelow n e = IsBelow n e.0 × IsBelow n e.1 × IsBelow n e.2 × IsBelow n e.3
+
 module _ (n : ℕ) (bindings : List (Option Term)) (bound : Bound n bindings) where
   term-all : (x : Operand Term) → OperandBelow n x → IfSome (term_of bindings x) (IsBelow n)
   term-all (Known t) o = o
@@ -80,6 +85,14 @@ module _ (n : ℕ) (bindings : List (Option Term)) (bound : Bound n bindings) wh
       (λ t. option_map (λ u. (t, u)) (term_of bindings y)) (term_of bindings x) (term-all x o)
       (λ t b. map-all (λ (e : Term × Term). IsBelow n e.0 × IsBelow n e.1) (IsBelow n) (λ u. (t, u))
       (term_of bindings y) (term-all y p) (λ u c. (b, c)))
+
+  four-all : (x b l y : Operand Term) → OperandBelow n x → OperandBelow n b → OperandBelow n l → OperandBelow n y
+      → IfSome (four bindings x b l y) (FourBelow n)
+  four-all x b l y o p q r =
+      then-all (FourBelow n) (λ (e : Term × Term). IsBelow n e.0 × IsBelow n e.1)
+      (λ e. option_map (λ f. (e.0, e.1, f.0, f.1)) (both bindings l y)) (both bindings x b) (both-all x b o p)
+      (λ e k. map-all (FourBelow n) (λ (f : Term × Term). IsBelow n f.0 × IsBelow n f.1) (λ f. (e.0, e.1, f.0, f.1))
+      (both bindings l y) (both-all l y q r) (λ f m. (k.0, k.1, m.0, m.1)))
 
   one_binding-all : (x y : Operand Term) → OperandBelow n y → IfSome (one_binding bindings x y) (λ b. IsBelow n b.1)
   one_binding-all x y o =
@@ -125,6 +138,19 @@ list-all : (d : Setting) (n : ℕ) (c : Conjunct Term) → AreFirst n c → Conj
 list-all d n (segment q next x y) h f =
     (operand-one n x (λ t i. h t (inl i)), operand-one n y (λ t i. h t (inr i)), f)
 list-all d n _ h f = tt
+
+double-all : (d : Setting) (n : ℕ) (c : Conjunct Term) → AreFirst n c → ConjunctFits (links_of d.program) c
+    → IfSome (wanted_double c) (λ w. OperandBelow n w.from × OperandBelow n w.before × OperandBelow n w.last
+    × OperandBelow n w.to × (is_some (links_of d.program).tl ≡ true) × (is_some (links_of d.program).pv ≡ true))
+double-all d n (doubly q next back x b l y) h f = (
+  operand-one n x (λ t i. h t (inl i)),
+  operand-one n b (λ t i. h t (inr (inl i))),
+  operand-one n l (λ t i. h t (inr (inr (inl i)))),
+  operand-one n y (λ t i. h t (inr (inr (inr i)))),
+  f.0,
+  f.1,
+)
+double-all d n _ h f = tt
 
 tree-all : (d : Setting) (n : ℕ) (c : Conjunct Term) → AreFirst n c → ConjunctFits (links_of d.program) c
     → IfSome (wanted_tree c) (λ w. OperandBelow n w.root
@@ -331,6 +357,14 @@ module _ (d : Setting) (s : State) (bindings : List (Option Term)) (c : Conjunct
           few : (ws : List (FieldId × Operand Term)) → length ws ≤ FIELDS → n + length ws ≤ n + 1000
           few ws l = omega arith
 
+  empty-shaped : IfSome (empty_step s bindings c cs) P
+  empty-shaped = go (wanted_shape bindings c)
+    where
+      go : (o : Option Atom)
+          → IfSome (option_and_then (λ x. cond (is_nothing x) (Some (removed s bindings cs)) None) o) P
+      go None = tt
+      go (Some x) = cond-all P (is_nothing x) (Some (removed s bindings cs)) same-shaped
+
   exact-shaped : (a : ℕ) → IfSome (exact_step a s bindings c cs) P
   exact-shaped a = go (wanted_shape bindings c)
     where
@@ -358,8 +392,8 @@ module _ (d : Setting) (s : State) (bindings : List (Option Term)) (c : Conjunct
       (λ w o. then-all P (λ (e : Term × Term). IsBelow n e.0 × IsBelow n e.1) (there w) (both bindings w.from w.to)
       (both-all n bindings h.bound w.from w.to o.0 o.1) (λ e b. g w e o.2 b.0 b.1))
 
-  head-shaped : (a : ℕ) → IfSome (head_step a s bindings c cs) P
-  head-shaped a = list_step-all (λ w e. head_there a s bindings w cs e)
+  list_head-shaped : (a : ℕ) → IfSome (list_head_step a s bindings c cs) P
+  list_head-shaped a = list_step-all (λ w e. head_there a s bindings w cs e)
       (λ w e l one two. cond-all P (differs s e.0 e.1) _
       (map-all P (λ fields. AllInAtom (IsBelow n) (Points e.0 fields)) _ (cell_at s.atoms a e.0) (cell-there a e.0)
       (λ fields b.
@@ -370,8 +404,8 @@ module _ (d : Setting) (s : State) (bindings : List (Option Term)) (c : Conjunct
       (bound-more n f.0.next_sym bindings k.0.kept h.bound))
       (list_from-first f.0.next_sym w f.1 e.1 k.1 (below-more n f.0.next_sym k.0.kept e.1 two)) l)))
 
-  join-shaped : (a : ℕ) → IfSome (join_step a s bindings c cs) P
-  join-shaped a = list_step-all (λ w e. join_there a s bindings w cs e)
+  list_join-shaped : (a : ℕ) → IfSome (list_join_step a s bindings c cs) P
+  list_join-shaped a = list_step-all (λ w e. join_there a s bindings w cs e)
       (λ w e l one two. then-all P (AllInAtom (IsBelow n)) _ (atom_at s.atoms a) (atom-there a)
       (λ x b. map-all P (IsBelow n) _ (joined s a e.0 e.1 x) (joined-all x e.0 e.1 b)
       (λ v k. replaced-shaped (removed (handed s a x) bindings cs) (list_from w v e.1) (handed-keeps a x b)
@@ -382,6 +416,79 @@ module _ (d : Setting) (s : State) (bindings : List (Option Term)) (c : Conjunct
           cond-all (IsBelow n) _ (Some y) b.1
       joined-all (Points root fields) v u b = tt
       joined-all (Tree root) v u b = tt
+      joined-all (Dll v p l u) t w b = tt
+
+  -- a doubly linked segment's rest
+  double_from-first : (m : ℕ) (w : WantedDouble) (v p l u : Term) → IsBelow m v → IsBelow m p → IsBelow m l
+      → IsBelow m u → AreFirst m (double_from w v p l u)
+  double_from-first m w v p l u b c e f t (inl i) = let same : v ≡ t = cc in subst (IsBelow m) same b
+  double_from-first m w v p l u b c e f t (inr (inl i)) = let same : p ≡ t = cc in subst (IsBelow m) same c
+  double_from-first m w v p l u b c e f t (inr (inr (inl i))) = let same : l ≡ t = cc in subst (IsBelow m) same e
+  double_from-first m w v p l u b c e f t (inr (inr (inr i))) = let same : u ≡ t = cc in subst (IsBelow m) same f
+
+  double_step-all : (there : WantedDouble → Term × Term × Term × Term → Option Want)
+      → ((w : WantedDouble) (e : Term × Term × Term × Term)
+      → (is_some (links_of d.program).tl ≡ true) × (is_some (links_of d.program).pv ≡ true) → FourBelow n e
+      → IfSome (there w e) P)
+      → IfSome (option_and_then (λ w. option_and_then (there w) (four bindings w.from w.before w.last w.to))
+      (wanted_double c)) P
+  double_step-all there g =
+      then-all P (λ w. OperandBelow n w.from × OperandBelow n w.before × OperandBelow n w.last × OperandBelow n w.to
+      × (is_some (links_of d.program).tl ≡ true) × (is_some (links_of d.program).pv ≡ true)) _
+      (wanted_double c) (double-all d n c h.first h.fits)
+      (λ w o. then-all P (FourBelow n) (there w) (four bindings w.from w.before w.last w.to)
+      (four-all n bindings h.bound w.from w.before w.last w.to o.0 o.1 o.2 o.3) (λ e b. g w e (o.4, o.5) b))
+
+  -- a cell that fits, and the term of its link
+  abbrev Linked : Fit × Term → Type 0
+  Linked r = FitShaped n (n + 1 + 1) r.0 × IsBelow r.0.next_sym r.1
+
+  double_head-shaped : (a : ℕ) → IfSome (double_head_step a s bindings c cs) P
+  double_head-shaped a = double_step-all (λ w e. double_head_there a s bindings w cs e)
+      (λ w e l b. cond-all P (differs s e.0 e.3) _
+      (map-all P Linked _ (double_cell a s bindings w e.0 e.1) (double_cell-all w e.0 e.1)
+      (λ r k.
+      let more = below-more n r.0.next_sym k.0.kept in
+      replaced-shaped (removed (handed_cell s e.0 a r.0) bindings cs) (double_from w r.1 e.0 e.2 e.3)
+      (cell_handed-keeps (n + 1 + 1) a e.0 r.0 bindings b.0 k.0 (omega arith)
+      (bound-more n r.0.next_sym bindings k.0.kept h.bound))
+      (double_from-first r.0.next_sym w r.1 e.0 e.2 e.3 k.1 (more e.0 b.0) (more e.2 b.2) (more e.3 b.3)) l)))
+    where
+      double_cell-all : (w : WantedDouble) (v p : Term) → IfSome (double_cell a s bindings w v p) Linked
+      double_cell-all w v p =
+          then-all Linked (λ fields. AllInAtom (IsBelow n) (Points v fields)) _ (cell_at s.atoms a v) (cell-there a v)
+          (λ fields k.
+          let first = first_fit s fields bindings in
+          map-all Linked (FitShaped n (n + 1)) (λ f. link f w.next)
+          (fit_known first (field_term fields w.back) p)
+          (known-fit n n first (first-fits v fields k) (field_term fields w.back) p)
+          (λ f m. link-fits n (n + 1) f m w.next))
+
+  double_join-shaped : (a : ℕ) → IfSome (double_join_step a s bindings c cs) P
+  double_join-shaped a = double_step-all (λ w e. double_join_there a s bindings w cs e)
+      (λ w e l b. then-all P (AllInAtom (IsBelow n)) _ (atom_at s.atoms a) (atom-there a)
+      (λ x k. map-all P (λ (v : Term × Term). IsBelow n v.0 × IsBelow n v.1) _ (double_joined s a e.0 e.1 e.3 x)
+      (joined-all x e.0 e.1 e.3 k)
+      (λ v m. replaced-shaped (removed (handed s a x) bindings cs) (double_from w v.0 v.1 e.2 e.3)
+      (handed-keeps a x k) (double_from-first n w v.0 v.1 e.2 e.3 m.0 m.1 b.2 b.3) l)))
+    where
+      joined-all : (x : Atom) (v p u : Term) → AllInAtom (IsBelow n) x
+          → IfSome (double_joined s a v p u x) (λ (e : Term × Term). IsBelow n e.0 × IsBelow n e.1)
+      joined-all (Dll t q m w) v p u b =
+          cond-all (λ (e : Term × Term). IsBelow n e.0 × IsBelow n e.1) _ (Some (w, m)) (b.3, b.2)
+      joined-all (Ls z y) v p u b = tt
+      joined-all (Points root fields) v p u b = tt
+      joined-all (Tree root) v p u b = tt
+
+  head-shaped : (a : ℕ) → IfSome (head_step a s bindings c cs) P
+  head-shaped a =
+      first-all P (list_head_step a s bindings c cs) (double_head_step a s bindings c cs) (list_head-shaped a)
+      (double_head-shaped a)
+
+  join-shaped : (a : ℕ) → IfSome (join_step a s bindings c cs) P
+  join-shaped a =
+      first-all P (list_join_step a s bindings c cs) (double_join_step a s bindings c cs) (list_join-shaped a)
+      (double_join-shaped a)
 
   node-shaped : (a : ℕ) → IfSome (node_step a s bindings c cs) P
   node-shaped a =
@@ -448,7 +555,7 @@ module _ (d : Setting) (s : State) (p : Place) (want : Pending) (names : List (L
       (option_and_then (λ e. both want.bindings e.0 e.1) (inequality c)))
   subtracted-shaped (t.Cell a) = by (cell_step a) (λ c cs w. cell-shaped d s want.bindings c cs w a)
   subtracted-shaped t.Empty =
-      by empty_step (λ c cs w. removed_if-shaped d s want.bindings c cs w same_term (wanted_ends want.bindings c))
+      by empty_step (λ c cs w. empty-shaped d s want.bindings c cs w)
   subtracted-shaped (t.Exact a) = by (exact_step a) (λ c cs w. exact-shaped d s want.bindings c cs w a)
   subtracted-shaped (t.Head a) = by (head_step a) (λ c cs w. head-shaped d s want.bindings c cs w a)
   subtracted-shaped (t.Join a) = by (join_step a) (λ c cs w. join-shaped d s want.bindings c cs w a)

@@ -10,6 +10,7 @@ use Rattle.sf_sym.specs.Goal.{Goal}
 use Rattle.sf_rules.specs.Checked.Examples.{NoCellIsAtNil, NumbersDontRunOut, EmptyListsGo, ListsFromNilAreEmpty, SplitReplacesTheGreater, UnrolledPartsHaveACell, AssignedVariablesHaveTheTerm, LookedUpFieldsAreKnown, MutatedFieldsHaveTheTerm, NewCellsAreFresh, DisposedCellsGo, DecidedBranchesAreLeft}
 use Rattle.sf_rules.specs.Checked.ExamplesOfBodies.{CallsLeaveThreeItems, ForksLeaveFiveItems, GivenIsGone, RegionsBeginWithTheInvariant, RegionsEndWithTheInvariant, LoopsBeginWithTheInvariant, LoopsGoOnceAround, LoopsGiveNoTerms, BodiesEndWithTheInvariant, ReturnsShowThePostcondition, NothingIsLeftAtTheEnd}
 use Rattle.sf_rules.specs.Checked.ExamplesOfInit.{HoldersBeginWithThePrecondition, InitBeginsWithNil, InitShowsEachInvariant}
+use Rattle.sf_rules.specs.Checked.ExamplesOfDoubles.{EmptyDoublesGo, DoublesThatAreEmptyHaveOneEnd, UnrolledDoublesHaveACell, DoublesHaveALastCell, AddedDoublesNameTheirEnds, EmptyDoublesNeedNothing, ExactDoublesAreHandedOver, HeadGoesOnBothWays, JoinGoesOnBothWays}
 use Rattle.sf_rules.specs.Checked.ExamplesOfConjuncts.{ChoicesAreNotAdded, AddedCellsNameTheirFields, AddedTestsAreKnown, ChosenBranchesTakeTheirPlace, BoundExistentialsHaveTheTerm, OneTermIsTheSame, KnownTermsAreApart, WantedCellsAreHandedOver, EmptyPartsNeedNothing, ExactPartsAreHandedOver, HeadGoesOn, JoinGoesOn, NodeGoesOn}
 
 -- what the function leaves is left by a rule, and where it leaves nothing there is none
@@ -166,6 +167,42 @@ join_goes_on d = (yes refl, no refl, no refl)
 pub node_goes_on : NodeGoesOn
 unfolding NodeGoesOn
 node_goes_on d = (yes refl, no refl)
+
+pub empty_doubles_go : EmptyDoublesGo
+unfolding EmptyDoublesGo
+empty_doubles_go d = (yes refl, no refl, no refl)
+
+pub doubles_that_are_empty_have_one_end : DoublesThatAreEmptyHaveOneEnd
+unfolding DoublesThatAreEmptyHaveOneEnd
+doubles_that_are_empty_have_one_end d = (yes refl, yes refl, no refl, no refl)
+
+pub unrolled_doubles_have_a_cell : UnrolledDoublesHaveACell
+unfolding UnrolledDoublesHaveACell
+unrolled_doubles_have_a_cell d = (yes refl, no refl, no refl, no refl)
+
+pub doubles_have_a_last_cell : DoublesHaveALastCell
+unfolding DoublesHaveALastCell
+doubles_have_a_last_cell d = (yes refl, no refl, no refl, no refl, no refl)
+
+pub added_doubles_name_their_ends : AddedDoublesNameTheirEnds
+unfolding AddedDoublesNameTheirEnds
+added_doubles_name_their_ends d = (yes refl, yes refl)
+
+pub empty_doubles_need_nothing : EmptyDoublesNeedNothing
+unfolding EmptyDoublesNeedNothing
+empty_doubles_need_nothing d = (yes refl, no refl, no refl)
+
+pub exact_doubles_are_handed_over : ExactDoublesAreHandedOver
+unfolding ExactDoublesAreHandedOver
+exact_doubles_are_handed_over d = (yes refl, no refl, no refl, no refl, no refl, no refl, no refl, no refl, no refl)
+
+pub head_goes_on_both_ways : HeadGoesOnBothWays
+unfolding HeadGoesOnBothWays
+head_goes_on_both_ways d = (yes refl, yes refl, no refl, no refl, no refl, no refl)
+
+pub join_goes_on_both_ways : JoinGoesOnBothWays
+unfolding JoinGoesOnBothWays
+join_goes_on_both_ways d = (yes refl, no refl, no refl, no refl, no refl)
 
 pub choices_are_not_added : ChoicesAreNotAdded
 unfolding ChoicesAreNotAdded

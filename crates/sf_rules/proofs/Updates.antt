@@ -1,17 +1,15 @@
 -- Lists in order as finite maps.
 -- Names: `one-LAW` speaks of lists that say the same; the laws have the names of the functions whose
 -- contracts they are.
-use Rattle.std.specs.List.{AllByRecursion}
-use Rattle.std.proofs.Common.{◌≡◌, Bool, true, false, cond, Option, Some, None, List, [], ◌∷◌, refl, sym, ap, ap₂, ◌∙◌, subst}
+use Rattle.std.proofs.Common.{◌≡◌, Bool, true, false, cond, Some, None, List, [], ◌∷◌, refl, sym, ap, ap₂, ◌∙◌, subst}
 use Rattle.std.proofs.lemmas.Option.{same_Some}
-use Rattle.sf_base.specs.declared.ids.FieldId.{FieldId}
 use Rattle.sf_base.specs.declared.ids.Var.{Var}
 use Rattle.sf_base.specs.Variables.{same_var}
 use Rattle.sf_rules.specs.Checked.LawsOfUpdates.{FieldsAreOneList, FieldsAreUpdated, VariablesAreOneList, VariablesAreUpdated, variable_term}
 use Rattle.sf_sym.specs.Checked.Lemmas.Updates.{AllAfter, Keys, Ordered, after-more, after-none, by-false, by-true, field-found, fields, fields-ordered, flipped, found, gone-elsewhere, gone-here, other, put-elsewhere, put-here, put-order, remove-order, set-order, variables, variables-ordered}
 use Rattle.sf_sym.specs.declared.term.Term.{Term}
-use Rattle.sf_sym.specs.Fields.{AreOrdered, field_term, put_term}
-use Rattle.sf_sym.specs.Variables.{AreInOrder, remove_var, set_var}
+use Rattle.sf_sym.specs.Fields.{put_term}
+use Rattle.sf_sym.specs.Variables.{remove_var, set_var}
 
 module _ {K : Type 0} (k : Keys K) where
   -- the first of a list in order is in no list that begins after it

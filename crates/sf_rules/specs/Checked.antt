@@ -4,6 +4,7 @@ pub mod Children
 pub mod Examples
 pub mod ExamplesOfBodies
 pub mod ExamplesOfConjuncts
+pub mod ExamplesOfDoubles
 pub mod ExamplesOfInit
 pub mod Few
 pub mod Front

@@ -33,6 +33,7 @@ abbrev pub links_of : Program → Links
 links_of p =
     record {
       tl = number_of p.fields (codes "tl") 0;
+      pv = number_of p.fields (codes "pv") 0;
       l = number_of p.fields (codes "l") 0;
       r = number_of p.fields (codes "r") 0;
     }

@@ -15,7 +15,7 @@ use Rattle.sf_core.specs.declared.assertion.Operand.TheVariants.{Known, Exists}
 use Rattle.sf_core.specs.declared.assertion.Test.TheVariants.{True, Equal, Differ}
 use Rattle.sf_core.specs.declared.command.Expr.TheVariants.{Nil as ENil}
 use Rattle.sf_core.specs.Program.Syntax as command
-use Rattle.sf_core.specs.Program.Syntax.{Block, Call, Conjunct, holds, points, segment, tree, choose, Conjuncts, also, Procedure, Resource}
+use Rattle.sf_core.specs.Program.Syntax.{Block, Call, Conjunct, holds, points, segment, doubly, tree, choose, Conjuncts, also, Procedure, Resource}
 use Rattle.sf_rules.specs.declared.few.TheConstants.{TOO_MANY}
 use Rattle.sf_rules.specs.Resources.{variables_of, variables_from}
 use Rattle.sf_rules.specs.Callee.{term_after, term_before}
@@ -24,9 +24,9 @@ use Rattle.sf_rules.specs.Words.{negation, to_add, to_add_test, to_take, to_take
 use Rattle.sf_sym.specs.Below.{IsBelow}
 use Rattle.sf_sym.specs.Cells.{atom_at, handed, with_atom, with_cell, with_fields, without}
 use Rattle.sf_sym.specs.declared.atom.Atom.{Atom}
-use Rattle.sf_sym.specs.declared.atom.Atom.TheVariants.{Points, Ls, Tree}
+use Rattle.sf_sym.specs.declared.atom.Atom.TheVariants.{Points, Ls, Tree, Dll}
 use Rattle.sf_sym.specs.declared.tag.Tag.{Tag}
-use Rattle.sf_sym.specs.declared.tag.Tag.TheVariants.{Absurd, Drop, Force, Split, Unroll, Assign, Look, Mutate, New, Dispose, Then, Else, Loop, Around, Again, Call as CallTag, Fork, Enter, Exit, Return, Give, End, Add, Bind, Same, Apart, Cell, Empty, Exact, Head, Join, Node}
+use Rattle.sf_sym.specs.declared.tag.Tag.TheVariants.{Absurd, Drop, Force, Split, Unroll, Back, Assign, Look, Mutate, New, Dispose, Then, Else, Loop, Around, Again, Call as CallTag, Fork, Enter, Exit, Return, Give, End, Add, Bind, Same, Apart, Cell, Empty, Exact, Head, Join, Node}
 use Rattle.sf_sym.specs.declared.term.Term.{Term}
 use Rattle.sf_sym.specs.declared.term.Term.TheVariants.{Nil, Sym}
 use Rattle.sf_sym.specs.Decided.{command_test, is_decided, term_of, test_of_terms}
@@ -51,10 +51,18 @@ s ⊢ todo = record { state = s; todo = todo }
 abbrev pub ◌∋◌ : State → ℕ × Atom → Type 0
 s ∋ x = atom_at s.atoms x.0 ≡ Some x.1
 
+-- an atom that is empty: a segment that ends where it begins, its last cell being what stands before it
+-- where it is doubly linked; or the tree of nil
+pub data IsNothing : Atom → Type 0 where
+  no_list : {t : _} → IsNothing (Ls t t)
+  no_tree : IsNothing (Tree Nil)
+  no_double : {t p : _} → IsNothing (Dll t p p t)
+
 -- an atom that may be empty, from one term to another: a segment, or a tree, which ends at nil
 pub data Spans : Atom → Term → Term → Type 0 where
   list_spans : {t u : _} → Spans (Ls t u) t u
   tree_spans : {t : _} → Spans (Tree t) t Nil
+  double_spans : {t p l u : _} → Spans (Dll t p l u) t u
 
 -- the two terms surely differ
 abbrev pub AreApart : State → Term → Term → Type 0
@@ -167,6 +175,11 @@ pub data Fits : (n : ℕ) (fs : List (FieldId × Term)) (terms : List (Option Te
 pub data Wanted (terms : List (Option Term)) : Conjunct Term → Atom → Type 0 where
   list_wanted : {q next x y t u : _} → term_of terms x ≡ Some t → term_of terms y ≡ Some u
       → Wanted terms (segment q next x y) (Ls t u)
+  double_wanted : {q next previous x b l y t r m u : _} → term_of terms x ≡ Some t
+      → term_of terms b ≡ Some r
+      → term_of terms l ≡ Some m
+      → term_of terms y ≡ Some u
+      → Wanted terms (doubly q next previous x b l y) (Dll t r m u)
   tree_wanted : {q left right x t : _} → term_of terms x ≡ Some t
       → Wanted terms (tree q left right x) (Tree t)
 
@@ -178,11 +191,15 @@ pub data Rule (d : Setting) (s : State) : List Item → Tag → List Goal → Ty
   absurd_state : {todo : _} → is_absurd s ≡ true
       → Rule d s todo Absurd []
   -- an empty segment or tree goes
-  drop : {todo a x t : _} → s ∋ (a, x) → Spans x t t
+  drop : {todo a x : _} → s ∋ (a, x) → IsNothing x
       → Rule d s todo (Drop a) ((without_atom a s ⊢ todo) ∷ [])
   -- a segment or tree that has no cell of its own is empty, so its ends are the same
   force : {todo a x t u : _} → s ∋ (a, x) → Spans x t u → t ≢ u → IsElsewhere s a t
       → Rule d s todo (Force a) (assumed_equal t u (s ⊢ todo) ∷ [])
+  -- a doubly linked segment that ends where it begins is empty, so its last cell is what stands
+  -- before it
+  force_ends : {todo a t p l : _} → s ∋ (a, Dll t p l t) → p ≢ l
+      → Rule d s todo (Force a) (assumed_equal p l (s ⊢ todo) ∷ [])
   -- two terms are the same, or they differ
   split : {todo t u : _} → t ≢ u → IsBelow s.next_sym t → IsBelow s.next_sym u
       → Rule d s todo (Split t u) (assumed_equal t u (s ⊢ todo) ∷ assumed_apart t u (s ⊢ todo) ∷ [])
@@ -201,6 +218,25 @@ pub data Rule (d : Setting) (s : State) : List Item → Tag → List Goal → Ty
       let w = fresh (with_symbols 1 s) in
       (with_atom (Tree w) (with_atom (Tree v)
       (with_cell (with_symbols 2 (without_atom a s)) t (put_term left v (put_term right w []))))
+      ⊢ todo) ∷ [])
+  -- a doubly linked segment whose ends differ begins with a cell, and goes on from its link: the
+  -- cell stands before the rest
+  unroll_double : {todo a t p l u next previous : _} → s ∋ (a, Dll t p l u) → AreApart s t u
+      → s.links.tl ≡ Some next
+      → s.links.pv ≡ Some previous
+      → Rule d s todo (Unroll a)
+      (let v = fresh s in
+      (with_atom (Dll v t l u)
+      (with_cell (with_symbols 1 (without_atom a s)) t (put_term next v (put_term previous p [])))
+      ⊢ todo) ∷ [])
+  -- it ends with a cell, too: its last one, before which it goes on backwards
+  back : {todo a t p l u next previous : _} → s ∋ (a, Dll t p l u) → AreApart s t u
+      → s.links.tl ≡ Some next
+      → s.links.pv ≡ Some previous
+      → Rule d s todo (Back a)
+      (let v = fresh s in
+      (with_cell (with_atom (Dll t p v l) (with_symbols 1 (without_atom a s))) l
+      (put_term next u (put_term previous v []))
       ⊢ todo) ∷ [])
   -- COMMANDS (SE 4, symbolic execution)
   -- x = E: x has E's term
@@ -323,6 +359,14 @@ pub data Rule (d : Setting) (s : State) : List Item → Tag → List Goal → Ty
       → Meets n between y u m ends
       → Rule d s (assume p (also (segment q next x y) cs) terms ∷ rest) Add
       ((with_atom (Ls t u) (next_at m s) ⊢ assume_rest p cs ends ++ rest) ∷ [])
+  -- there is a doubly linked segment
+  add_double : {rest p q next previous x b l y t r m u cs terms one two three ends i j k n : _}
+      → Meets s.next_sym terms x t i one
+      → Meets i one b r j two
+      → Meets j two l m k three
+      → Meets k three y u n ends
+      → Rule d s (assume p (also (doubly q next previous x b l y) cs) terms ∷ rest) Add
+      ((with_atom (Dll t r m u) (next_at n s) ⊢ assume_rest p cs ends ++ rest) ∷ [])
   -- there is a tree
   add_tree : {rest p q left right x t cs terms ends n : _} → Meets s.next_sym terms x t n ends
       → Rule d s (assume p (also (tree q left right x) cs) terms ∷ rest) Add
@@ -352,8 +396,8 @@ pub data Rule (d : Setting) (s : State) : List Item → Tag → List Goal → Ty
       → Fits s.next_sym fs terms others n gs ends
       → Rule d s (show p (also (points q x others) cs) terms names ∷ rest) (Cell a)
       ((handed (next_at n s) a (Points t gs) ⊢ show_rest p cs ends names ++ rest) ∷ [])
-  -- a wanted segment from a term to itself, or a tree of nil, is nothing
-  empty : {rest p names c x t cs terms : _} → Wanted terms c x → Spans x t t
+  -- a wanted segment or tree that is empty is nothing
+  empty : {rest p names c x cs terms : _} → Wanted terms c x → IsNothing x
       → Rule d s (show p (also c cs) terms names ∷ rest) Empty
       ((s ⊢ show_rest p cs terms names ++ rest) ∷ [])
   -- a wanted segment or tree is atom a
@@ -376,6 +420,26 @@ pub data Rule (d : Setting) (s : State) : List Item → Tag → List Goal → Ty
       → Rule d s (show p (also (segment q next x y) cs) terms names ∷ rest) (Join a)
       ((handed s a (Ls t v)
       ⊢ show_rest p (also (segment q next (Known v) (Known u)) cs) terms names ++ rest) ∷ [])
+  -- a wanted doubly linked segment whose ends differ begins with the cell that is atom a, which
+  -- leads back to what stands before it; the rest from its link is still wanted, and the cell
+  -- stands before that
+  head_double : {rest a p q names next previous x b l y t r m u v fs gs cs terms n : _}
+      → Wanted terms (doubly q next previous x b l y) (Dll t r m u)
+      → s ∋ (a, Points t fs) → AreApart s t u → field_term fs previous ≡ Some r
+      → FieldIs s.next_sym fs next v n gs
+      → Rule d s (show p (also (doubly q next previous x b l y) cs) terms names ∷ rest) (Head a)
+      ((handed (next_at n s) a (Points t gs)
+      ⊢ show_rest p (also (doubly q next previous (Known v) (Known t) (Known m) (Known u)) cs) terms
+      names ++ rest) ∷ [])
+  -- it begins with the doubly linked segment that is atom a, inside which the wanted end can't be;
+  -- the rest from its end is still wanted, and its last cell stands before that
+  join_double : {rest a p q names next previous x b l y t r m u v w cs terms : _}
+      → Wanted terms (doubly q next previous x b l y) (Dll t r m u)
+      → s ∋ (a, Dll t r w v) → IsElsewhere s a u
+      → Rule d s (show p (also (doubly q next previous x b l y) cs) terms names ∷ rest) (Join a)
+      ((handed s a (Dll t r w v)
+      ⊢ show_rest p (also (doubly q next previous (Known v) (Known w) (Known m) (Known u)) cs) terms
+      names ++ rest) ∷ [])
   -- a wanted tree begins with the cell that is atom a; its two subtrees are still wanted
   node : {rest a p q names left right x t v w fs gs hs cs terms n m : _} → term_of terms x ≡ Some t
       → s ∋ (a, Points t fs) → FieldIs s.next_sym fs left v n gs → FieldIs n gs right w m hs
@@ -395,6 +459,7 @@ has_numbers s = nat_le s.next_sym (2 ^ 32 - TOO_MANY) && nat_le s.next_atom (2 ^
 -- so many fresh symbols the conjunct in front may need
 abbrev pub needed_to_assume : Conjuncts Term → ℕ
 needed_to_assume (also (points q x fs) cs) = one_if_existential x + existentials_in fs
+needed_to_assume (also (doubly q next previous x b l y) cs) = 4
 needed_to_assume _ = 2
 
 abbrev pub needed_to_show : Conjuncts Term → ℕ

@@ -15,7 +15,7 @@ use Rattle.sf_rules.specs.Setting.{Setting}
 use Rattle.sf_rules.specs.Words.{pending_assertion}
 use Rattle.sf_rules.specs.Rules.{Leaves}
 use Rattle.sf_sym.specs.declared.atom.Atom.{Atom}
-use Rattle.sf_sym.specs.declared.atom.Atom.TheVariants.{Points, Ls, Tree}
+use Rattle.sf_sym.specs.declared.atom.Atom.TheVariants.{Points, Ls, Tree, Dll}
 use Rattle.sf_sym.specs.declared.atom.Numbered.{Numbered}
 use Rattle.sf_sym.specs.declared.tag.Tag.{Tag}
 use Rattle.sf_sym.specs.declared.term.Term.{Term}
@@ -25,11 +25,12 @@ use Rattle.sf_sym.specs.Numbers.{AreRising, numbers}
 use Rattle.sf_sym.specs.Shape.{HasShape}
 use Rattle.sf_sym.specs.State.{State}
 
--- THE STATE a segment has a field to go along, and a tree two
+-- THE STATE a segment has a field to go along, and a doubly linked one or a tree two
 abbrev pub HasLinks : Links → Atom → Type 0
 HasLinks links (Points t fields) = Unit {0}
 HasLinks links (Ls t u) = is_some links.tl ≡ true
 HasLinks links (Tree t) = (is_some links.l ≡ true) × (is_some links.r ≡ true)
+HasLinks links (Dll v p l u) = (is_some links.tl ≡ true) × (is_some links.pv ≡ true)
 
 -- a state goes by the program's links, which its segments and trees have, and the numbers of its atoms rise up to the
 -- next one

@@ -17,7 +17,7 @@ use crate::few::TOO_MANY;
 use crate::loops::{again, around, begin_loop, end, return_from};
 use crate::regions::{enter, exit};
 use crate::subtracting::{assume, show};
-use sf_normal::{absurd, drop, force, split, unroll};
+use sf_normal::{absurd, drop, force, split, unroll, unroll_back};
 use sf_precise::Arranged;
 use sf_sym::{Goal, State, Tag};
 use std::alloc::{AllocError, Global};
@@ -142,6 +142,7 @@ fn row_of<'a>(
         Tag::Force(a) => Ok(one(force(goal, a)?)),
         Tag::Split(t, u) => Ok(two(split(alloc, goal, t, u)?)),
         Tag::Unroll(a) => Ok(one(unroll(alloc, goal, a)?)),
+        Tag::Back(a) => Ok(one(unroll_back(alloc, goal, a)?)),
         Tag::Assign => assign(goal),
         Tag::Look(a) => look(goal, a),
         Tag::Mutate(a) => mutate(goal, a),

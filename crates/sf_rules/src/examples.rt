@@ -4,6 +4,7 @@
 
 ghost use Rattle.sf_rules.specs.Checked.Examples.{AssignedVariablesHaveTheTerm, DecidedBranchesAreLeft, DisposedCellsGo, EmptyListsGo, ListsFromNilAreEmpty, LookedUpFieldsAreKnown, MutatedFieldsHaveTheTerm, NewCellsAreFresh, NoCellIsAtNil, NumbersDontRunOut, SplitReplacesTheGreater, UnrolledPartsHaveACell};
 ghost use Rattle.sf_rules.specs.Checked.ExamplesOfBodies.{BodiesEndWithTheInvariant, CallsLeaveThreeItems, ForksLeaveFiveItems, GivenIsGone, LoopsBeginWithTheInvariant, LoopsGiveNoTerms, LoopsGoOnceAround, NothingIsLeftAtTheEnd, RegionsBeginWithTheInvariant, RegionsEndWithTheInvariant, ReturnsShowThePostcondition};
+ghost use Rattle.sf_rules.specs.Checked.ExamplesOfDoubles.{AddedDoublesNameTheirEnds, DoublesHaveALastCell, DoublesThatAreEmptyHaveOneEnd, EmptyDoublesGo, EmptyDoublesNeedNothing, ExactDoublesAreHandedOver, HeadGoesOnBothWays, JoinGoesOnBothWays, UnrolledDoublesHaveACell};
 ghost use Rattle.sf_rules.specs.Checked.ExamplesOfInit.{HoldersBeginWithThePrecondition, InitBeginsWithNil, InitShowsEachInvariant};
 ghost use Rattle.sf_rules.specs.Checked.ExamplesOfConjuncts.{AddedCellsNameTheirFields, AddedTestsAreKnown, BoundExistentialsHaveTheTerm, ChoicesAreNotAdded, ChosenBranchesTakeTheirPlace, EmptyPartsNeedNothing, ExactPartsAreHandedOver, HeadGoesOn, JoinGoesOn, KnownTermsAreApart, NodeGoesOn, OneTermIsTheSame, WantedCellsAreHandedOver};
 
@@ -227,6 +228,61 @@ pub fn join_goes_on()
 #[tactic(auto, using(crate::proofs::SmallRows::node_goes_on))]
 pub fn node_goes_on()
     ensures { NodeGoesOn }
+{}
+
+/// A doubly linked segment that ends where it begins goes, if its last cell is what stands before it.
+#[tactic(auto, using(crate::proofs::SmallRows::empty_doubles_go))]
+pub fn empty_doubles_go()
+    ensures { EmptyDoublesGo }
+{}
+
+/// A doubly linked segment from nil ends at nil, and where one ends where it begins its last cell is
+/// what stands before it.
+#[tactic(auto, using(crate::proofs::SmallRows::doubles_that_are_empty_have_one_end))]
+pub fn doubles_that_are_empty_have_one_end()
+    ensures { DoublesThatAreEmptyHaveOneEnd }
+{}
+
+/// A doubly linked segment that isn't empty is a cell, and what its link begins.
+#[tactic(auto, using(crate::proofs::SmallRows::unrolled_doubles_have_a_cell))]
+pub fn unrolled_doubles_have_a_cell()
+    ensures { UnrolledDoublesHaveACell }
+{}
+
+/// So it is what comes before its last cell, and that cell.
+#[tactic(auto, using(crate::proofs::SmallRows::doubles_have_a_last_cell))]
+pub fn doubles_have_a_last_cell()
+    ensures { DoublesHaveALastCell }
+{}
+
+/// A doubly linked segment that is assumed gives its existentials fresh symbols.
+#[tactic(auto, using(crate::proofs::SmallRows::added_doubles_name_their_ends))]
+pub fn added_doubles_name_their_ends()
+    ensures { AddedDoublesNameTheirEnds }
+{}
+
+/// An empty doubly linked segment needs no heap.
+#[tactic(auto, using(crate::proofs::SmallRows::empty_doubles_need_nothing))]
+pub fn empty_doubles_need_nothing()
+    ensures { EmptyDoublesNeedNothing }
+{}
+
+/// A doubly linked segment that is wanted just so is handed over.
+#[tactic(auto, using(crate::proofs::SmallRows::exact_doubles_are_handed_over))]
+pub fn exact_doubles_are_handed_over()
+    ensures { ExactDoublesAreHandedOver }
+{}
+
+/// A wanted doubly linked segment begins with its first cell, and goes on at the link.
+#[tactic(auto, using(crate::proofs::SmallRows::head_goes_on_both_ways))]
+pub fn head_goes_on_both_ways()
+    ensures { HeadGoesOnBothWays }
+{}
+
+/// It begins with a segment, and goes on at its end.
+#[tactic(auto, using(crate::proofs::SmallRows::join_goes_on_both_ways))]
+pub fn join_goes_on_both_ways()
+    ensures { JoinGoesOnBothWays }
 {}
 
 /// A choice is no conjunct to add.

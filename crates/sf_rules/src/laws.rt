@@ -17,7 +17,8 @@ use sf_calls::laws::{
 };
 use sf_consume::laws::{branch_keeps_wants, subtraction_keeps_wants};
 use sf_normal::laws::{
-    absurd_keeps_goals, drop_keeps_goals, force_keeps_goals, split_keeps_goals, unroll_keeps_goals,
+    absurd_keeps_goals, back_keeps_goals, drop_keeps_goals, force_keeps_goals, split_keeps_goals,
+    unroll_keeps_goals,
 };
 use sf_precise::laws::{
     determined_has_order, never_taken_is_undetermined, order_keeps_form, ordering_exists,
@@ -209,6 +210,7 @@ pub fn rows_keep_shape()
     force_keeps_goals();
     split_keeps_goals();
     unroll_keeps_goals();
+    back_keeps_goals();
     assign_follows_event();
     look_follows_event();
     mutate_follows_event();

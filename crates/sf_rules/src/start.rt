@@ -63,7 +63,7 @@ fn first_state(
 {
     let parameters = procedure.references + procedure.values;
     let vars = first_vars(alloc, parameters, procedure.names.len() as u32)?;
-    let state = State::new(alloc, links_of(&arranged.program), vars, parameters);
+    let state = State::new(alloc, links_of(&arranged.program), vars, parameters)?;
     let held = held_variables(alloc, arranged, f)?;
     with_held(alloc, arranged.program.is_init(f), &held, state)
 }

@@ -85,6 +85,17 @@ fn conjunct_with(
                 operand_with(terms, to),
             ))
         }
+        Conjunct::Doubly(place, next, back, from, before, last, to) => {
+            Ok(Conjunct::Doubly(
+                *place,
+                *next,
+                *back,
+                operand_with(terms, from),
+                operand_with(terms, before),
+                operand_with(terms, last),
+                operand_with(terms, to),
+            ))
+        }
         Conjunct::Tree(place, left, right, root) => {
             Ok(Conjunct::Tree(*place, *left, *right, operand_with(terms, root)))
         }

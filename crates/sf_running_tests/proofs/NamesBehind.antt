@@ -69,6 +69,7 @@ module _ (P : Leaf → Type 0) where
     conjunct-behind (s.differ x y) r h = h.1.1.1
     conjunct-behind (s.points x fs) r h = maybe_fields-behind fs r h.1.1
     conjunct-behind (s.ls p long x y) r h = h.1.1.1.1.1.1
+    conjunct-behind (s.dll p from before last to) r h = h.1.1.1.1.1.1.1.1.1.1
     conjunct-behind (s.list p x) r h = h.1.1.1.1
     conjunct-behind (s.tree p x) r h = h.1.1.1.1
 

@@ -116,23 +116,35 @@ module _ {X : Type 0} where
           step true l = let w = r b l in (suc w.0, w.1, w.2, w.3)
           step false l = (zero, y, refl, i ∙ ap (λ q. Some q.1) (same_Some (y.number, z) b l))
 
+  -- of two things neither is there, where there is no lower one
+  none-lower : (n : ℕ) (o : Option X) (p : Option (ℕ × X)) → lower (option_map (λ z. (n, z)) o) p ≡ None
+      → (o ≡ None) × (p ≡ None)
+  none-lower n None p e = (refl, e)
+  none-lower n (Some z) None e = absurd (cc)
+  none-lower n (Some z) (Some c) e = absurd (step (nat_lt c.0 n) e)
+    where
+      step : (t : Bool) → cond t (Some c) (Some (n, z)) ≡ None → ⊥
+      step true q = absurd (cc)
+      step false q = absurd (cc)
+
   -- where there is no lowest, nothing is so of any
   pub found-none : (f : Atom → Option X) (xs : List Numbered) (k : ℕ) (y : Numbered) → lowest f xs ≡ None
       → slice_get xs k ≡ Some y → f y.atom ≡ None
   found-none f [] k y e i = absurd (cc)
-  found-none f (x ∷ xs) k y e i = go (f x.atom) (lowest f xs) refl (λ m. found-none f xs m y) k i e
-    where
-      go : (o : Option X) (p : Option (ℕ × X)) → f x.atom ≡ o
-          → ((m : ℕ) → p ≡ None → slice_get xs m ≡ Some y → f y.atom ≡ None) → (m : ℕ)
-          → slice_get (x ∷ xs) m ≡ Some y → lower (option_map (λ z. (x.number, z)) o) p ≡ None → f y.atom ≡ None
-      go None p h r zero j l = ap (λ z. f z.atom) (sym (same_Some x y j)) ∙ h
-      go None p h r (suc m) j l = r m l j
-      go (Some z) None h r m j l = absurd (cc)
-      go (Some z) (Some c) h r m j l = absurd (step (nat_lt c.0 x.number) l)
-        where
-          step : (t : Bool) → cond t (Some c) (Some (x.number, z)) ≡ None → ⊥
-          step true q = absurd (cc)
-          step false q = absurd (cc)
+  found-none f (x ∷ xs) zero y e i =
+      ap (λ z. f z.atom) (sym (same_Some x y i)) ∙ (none-lower x.number (f x.atom) (lowest f xs) e).0
+  found-none f (x ∷ xs) (suc k) y e i =
+      found-none f xs k y (none-lower x.number (f x.atom) (lowest f xs) e).1 i
+
+-- where there is no lowest forced atom, none is forced
+pub none-forced : (s : State) (xs : List Numbered) (k : ℕ) (y : Numbered) → lowest_forced s xs ≡ None
+    → slice_get xs k ≡ Some y → forced_pair s y.number y.atom ≡ None
+none-forced s [] k y e i = absurd (cc)
+none-forced s (x ∷ xs) zero y e i =
+    ap (λ (z : Numbered). forced_pair s z.number z.atom) (sym (same_Some x y i))
+    ∙ (none-lower x.number (forced_pair s x.number x.atom) (lowest_forced s xs) e).0
+none-forced s (x ∷ xs) (suc k) y e i =
+    none-forced s xs k y (none-lower x.number (forced_pair s x.number x.atom) (lowest_forced s xs) e).1 i
 
 -- the lowest forced atom is the atom of its number
 pub found-forced : (s : State) (xs : List Numbered) → AreRising (numbers xs) → (n : ℕ) (e : Term × Term)

@@ -7,9 +7,9 @@ use Rattle.sf_base.proofs.Elements.{contains-cons, contains-nil}
 use Rattle.sf_base.specs.declared.ids.FieldId.{FieldId}
 use Rattle.sf_consume.specs.Subtract.{is_same_shape}
 use Rattle.sf_search.specs.Checked.Seeking.{sought_at}
-use Rattle.sf_search.specs.Strategy.{lower, lowest, tree_at, which}
+use Rattle.sf_search.specs.Strategy.{double_at, last_at, lower, lowest, tree_at, which}
 use Rattle.sf_sym.specs.declared.atom.Atom.{Atom}
-use Rattle.sf_sym.specs.declared.atom.Atom.TheVariants.{Points, Ls, Tree}
+use Rattle.sf_sym.specs.declared.atom.Atom.TheVariants.{Points, Ls, Tree, Dll}
 use Rattle.sf_sym.specs.declared.atom.Kind.{Kind}
 use Rattle.sf_sym.specs.declared.atom.Kind.TheVariants as kind
 use Rattle.sf_sym.specs.declared.atom.Numbered.{Numbered}
@@ -86,6 +86,14 @@ lowest_same_tree_is t xs = same-number (sought_at kind.Tree t) (which (λ x. is_
     each (Points u fields) = refl
     each (Ls u v) = refl
     each (Tree u) = map-some _ (tree_at t (Tree u))
+    each (Dll v p l u) = refl
+
+pub lowest_same_double_is : (t q m w : Term) (xs : List Numbered)
+    → option_map (λ f. f.0) (lowest (sought_at (kind.DoubleTo q m w) t) xs)
+    ≡ option_map (λ f. f.0) (lowest (which (λ x. is_same_shape x (Dll t q m w))) xs)
+lowest_same_double_is t q m w xs =
+    same-number (sought_at (kind.DoubleTo q m w) t) (which (λ x. is_same_shape x (Dll t q m w)))
+    (λ x. map-some _ (which (λ y. is_same_shape y (Dll t q m w)) x)) xs
 
 pub lowest_same_cell_is : (t : Term) (fields : List (FieldId × Term)) (xs : List Numbered)
     → option_map (λ f. f.0) (lowest (which (λ x. is_same_shape x (Points t fields))) xs) ≡ None
@@ -98,16 +106,43 @@ lowest_same_cell_is t fields (x ∷ xs) = go x.atom (lowest_same_cell_is t field
     go (Points u others) e = e
     go (Ls u v) e = e
     go (Tree u) e = e
+    go (Dll v p l u) e = e
 
 some-cond : {X Y : Type 0} (f : X → Y) (b : Bool) (x : X) → is_some (option_map f (cond b (Some x) None)) ≡ b
 some-cond f true x = refl
 some-cond f false x = refl
+
+is-some-cond : {X : Type 0} (b : Bool) (x : X) → is_some (cond b (Some x) None) ≡ b
+is-some-cond true x = refl
+is-some-cond false x = refl
+
+-- a doubly linked segment from the term
+pub same-double : (t : Term) (x : Atom) → is_some (double_at t x) ≡ is_kind kind.Double t x
+same-double t (Points v fields) = refl
+same-double t (Ls v w) = refl
+same-double t (Tree v) = refl
+same-double t (Dll v p l u) = is-some-cond (same_term v t) (p, l, u)
+
+-- one of which the last cell may be there
+pub same-last : (t : Term) (x : Atom) → is_some (last_at t x) ≡ is_kind kind.DoubleLast t x
+same-last t (Points v fields) = refl
+same-last t (Ls v w) = refl
+same-last t (Tree v) = refl
+same-last t (Dll v p l u) = is-some-cond (same_term l t) (v, u)
+
+-- a cell there
+pub same-cell : (t : Term) (x : Atom) → is_some (fields_at x t) ≡ is_kind kind.Cell t x
+same-cell t (Points v fields) = is-some-cond (same_term v t) fields
+same-cell t (Ls v w) = refl
+same-cell t (Tree v) = refl
+same-cell t (Dll v p l u) = refl
 
 -- what is sought is an atom of that kind
 pub same-kind : (k : Kind) (t : Term) (x : Atom) → is_some (sought_at k t x) ≡ is_kind k t x
 same-kind kind.Cell t (Points v fields) = some-cond _ (same_term v t) fields
 same-kind kind.Cell t (Ls v w) = refl
 same-kind kind.Cell t (Tree v) = refl
+same-kind kind.Cell t (Dll v p l u) = refl
 same-kind kind.Segment t (Points v fields) = refl
 same-kind kind.Segment t (Ls v w) = go (same_term v t)
   where
@@ -115,12 +150,22 @@ same-kind kind.Segment t (Ls v w) = go (same_term v t)
     go true = refl
     go false = refl
 same-kind kind.Segment t (Tree v) = refl
+same-kind kind.Segment t (Dll v p l u) = refl
 same-kind (kind.SegmentTo u) t (Points v fields) = refl
 same-kind (kind.SegmentTo u) t (Ls v w) = some-cond _ (same_term v t && same_term w u) (Ls v w)
 same-kind (kind.SegmentTo u) t (Tree v) = refl
+same-kind (kind.SegmentTo w) t (Dll v p l u) = refl
 same-kind kind.Tree t (Points v fields) = refl
 same-kind kind.Tree t (Ls v w) = refl
 same-kind kind.Tree t (Tree v) = some-cond _ (same_term v t) (Tree v)
+same-kind kind.Tree t (Dll v p l u) = refl
+same-kind kind.Double t x = map-some _ (double_at t x) ∙ same-double t x
+same-kind kind.DoubleLast t x = map-some _ (last_at t x) ∙ same-last t x
+same-kind (kind.DoubleTo q m w) t (Points v fields) = refl
+same-kind (kind.DoubleTo q m w) t (Ls v x) = refl
+same-kind (kind.DoubleTo q m w) t (Tree v) = refl
+same-kind (kind.DoubleTo q m w) t (Dll v p l u) =
+    some-cond _ (same_term v t && (same_term p q && (same_term l m && same_term u w))) (Dll v p l u)
 
 nothing-is : {X : Type 0} (o : Option X) → is_some o ≡ false → o ≡ None
 nothing-is None e = refl
@@ -184,17 +229,22 @@ module _ {X : Type 0} (f : Atom → Option X) (test : Atom → Bool) (same : (x 
           let is = l.0.2 in
           (w.0, w.1, later y ys n (omega (arith, before, is)) ∙ w.2, w.3, lowest_other f y ys e ∙ w.4)
 
+  -- the same of a number that is found
+  pub found-lowest : (xs : List Numbered) → AreRising (numbers xs) → (o : Option ℕ) (n : ℕ)
+      → IsLowest (λ a. test a.atom) xs o → o ≡ Some n → IsFound xs n
+  found-lowest xs r o n l e = lowest-at xs r n (subst (IsLowest (λ a. test a.atom) xs) e l)
+
+  pub found-no-lowest : (xs : List Numbered) (o : Option ℕ) → IsLowest (λ a. test a.atom) xs o → o ≡ None
+      → lowest f xs ≡ None
+  found-no-lowest xs o l e = lowest-none xs (subst (IsLowest (λ a. test a.atom) xs) e l)
+
 -- the lowest atom of a kind at a term is what is sought there
 pub kind-found : (k : Kind) (t : Term) (xs : List Numbered) → AreRising (numbers xs) → (o : Option ℕ) (n : ℕ)
     → IsLowest (λ a. is_kind k t a.atom) xs o → o ≡ Some n
     → (a : Atom) × (x : Term) × (atom_at xs n ≡ Some a) × (sought_at k t a ≡ Some x)
     × (lowest (sought_at k t) xs ≡ Some (n, x))
-kind-found k t xs r o n l e =
-    lowest-at (sought_at k t) (is_kind k t) (same-kind k t) xs r n
-    (subst (IsLowest (λ a. is_kind k t a.atom) xs) e l)
+kind-found k t = found-lowest (sought_at k t) (is_kind k t) (same-kind k t)
 
 pub kind-none : (k : Kind) (t : Term) (xs : List Numbered) (o : Option ℕ)
     → IsLowest (λ a. is_kind k t a.atom) xs o → o ≡ None → lowest (sought_at k t) xs ≡ None
-kind-none k t xs o l e =
-    lowest-none (sought_at k t) (is_kind k t) (same-kind k t) xs
-    (subst (IsLowest (λ a. is_kind k t a.atom) xs) e l)
+kind-none k t = found-no-lowest (sought_at k t) (is_kind k t) (same-kind k t)

@@ -9,8 +9,9 @@ use Rattle.std.specs.Option.{option_and_then, option_map}
 use Rattle.sf_base.specs.declared.ids.FieldId.{FieldId}
 use Rattle.sf_base.specs.declared.ids.Var.{Var}
 use Rattle.sf_base.specs.declared.place.Place.{Place}
+use Rattle.sf_consume.specs.declared.wanted.WantedDouble.{WantedDouble}
 use Rattle.sf_calls.specs.Changes.{changed, changes_in}
-use Rattle.sf_consume.specs.Subtract.{Step, apart_step, bind_step, binding, both, cell_step, empty_step, equality, exact_step, exact_there, fitting, head_step, head_there, is_same_shape, join_step, join_there, joined, list_from, new_symbols, node_step, node_there, removed, removed_if, same_step, step_of, stepped, subtracted, wanted_cell, wanted_ends, wanted_shape}
+use Rattle.sf_consume.specs.Subtract.{Fit, Step, apart_step, bind_step, binding, both, cell_step, double_from, double_head_there, double_join_there, double_joined, empty_step, equality, exact_step, exact_there, first_fit, first_of, fit_known, fitting, four, head_step, head_there, is_same_shape, join_step, join_there, joined, list_from, new_symbols, node_step, node_there, removed, removed_if, same_step, step_of, stepped, subtracted, wanted_cell, wanted_shape}
 use Rattle.sf_core.specs.Assertions.Occurs.{OccursInAll, OccursInTest}
 use Rattle.sf_core.specs.declared.assertion.Operand.{Operand}
 use Rattle.sf_core.specs.declared.assertion.Operand.TheVariants.{Known, Exists}
@@ -18,7 +19,7 @@ use Rattle.sf_core.specs.declared.assertion.Test.{Test}
 use Rattle.sf_core.specs.declared.assertion.Test.TheVariants.{True, Equal, Differ}
 use Rattle.sf_core.specs.declared.command.Expr.{Expr}
 use Rattle.sf_core.specs.Program.Formed.{TestWithin}
-use Rattle.sf_core.specs.Program.Syntax.{Command, assign, look_up, mutate, new, dispose, if, while, call, fork, with, Conjunct, holds, points, segment, tree, choose, Conjuncts, none, also}
+use Rattle.sf_core.specs.Program.Syntax.{Command, assign, look_up, mutate, new, dispose, if, while, call, fork, with, Conjunct, holds, points, segment, doubly, tree, choose, Conjuncts, none, also}
 use Rattle.sf_rules.specs.declared.few.TheConstants.{TOO_MANY}
 use Rattle.sf_rules.specs.Checked.Few.{if_few}
 use Rattle.sf_produce.specs.Add.{operands}
@@ -33,11 +34,12 @@ use Rattle.sf_rules.specs.Checked.Rows.Whole.{row, row_of}
 use Rattle.sf_rules.specs.Setting.{Setting}
 use Rattle.sf_search.proofs.Found.{found-at, found-forced}
 use Rattle.sf_rules.specs.Checked.Lemmas.FreshVariables.{few-filtered, fresh-length, term-below, variables-length}
-use Rattle.sf_search.proofs.Rows.{Good, GoodIf, NoneIsNothing, cell-found, good-at_cell, good-at_test, good-if, good-map, good-or, good-split, good-split_or, segment-is}
+use Rattle.sf_search.proofs.Rows.{Good, GoodIf, NothingIsKnown, cell-found, good-at_cell, good-at_test, good-if, good-map, good-or, good-split, good-split_or, double-is, segment-is}
+use Rattle.sf_search.specs.declared.choices.choice.Choice.{Choice}
 use Rattle.sf_search.specs.declared.choices.choice.Choice.TheVariants.{Takes as takes}
-use Rattle.sf_search.specs.Strategy.{lowest, lowest_forced, segment_at, which}
+use Rattle.sf_search.specs.Strategy.{double_at, has_term, lowest, lowest_forced, segment_at, which}
 use Rattle.sf_sym.specs.declared.stuck.Stuck.TheVariants.{EndNotAllocated as end_not_allocated, Leak as leak, NoAtom as no_atom, NotDifferent as not_different, NotEqual as not_equal}
-use Rattle.sf_search.specs.Checked.Chooses.{at_choice, at_command, at_end, at_equality, at_first_wanted, at_given, at_inequality, at_items, at_known, at_list, at_points, at_tree, at_wanted, begins_with, chooses, exact_atom, has_step, joins, split_or, takes_if}
+use Rattle.sf_search.specs.Checked.Chooses.{at_choice, at_command, at_double, at_end, at_equality, at_first_cell, at_first_part, at_first_wanted, at_given, at_inequality, at_items, at_known, at_list, at_open_double, at_points, at_tree, at_wanted, begins_with, chooses, exact_atom, field_of, has_step, joins, split_or, takes_if}
 use Rattle.sf_search.specs.Checked.Laws.{TakenTagsHaveRows}
 use Rattle.sf_search.proofs.Told.{told}
 use Rattle.sf_search.proofs.GoalShapes.{IsReady, ready-of}
@@ -45,7 +47,7 @@ use Rattle.sf_sym.specs.Below.{AllInPending, AllPaired, IsBelow}
 use Rattle.sf_sym.specs.Cells.{cell_at, fields_at, handed}
 use Rattle.sf_sym.specs.Decided.{command_test, is_false, is_true, term_of, test_of_terms, two_terms}
 use Rattle.sf_sym.specs.declared.atom.Atom.{Atom}
-use Rattle.sf_sym.specs.declared.atom.Atom.TheVariants.{Ls, Tree}
+use Rattle.sf_sym.specs.declared.atom.Atom.TheVariants.{Ls, Tree, Dll}
 use Rattle.sf_sym.specs.declared.atom.Numbered.{Numbered}
 use Rattle.sf_sym.specs.Known.{is_nothing}
 use Rattle.sf_sym.specs.declared.tag.Tag.{Tag}
@@ -120,7 +122,7 @@ module _ (d : Setting) (s : State) (rest : List Item) where
   abbrev here : Item → Goal
   here i = record { state = s; todo = i ∷ rest }
 
-  good-command : (c : Command) → IsReady d (here (run c)) → NoneIsNothing (here (run c))
+  good-command : (c : Command) → IsReady d (here (run c)) → NothingIsKnown (here (run c))
       → Good (row_of d (here (run c))) (at_command s c)
   good-command (assign p x e) shape nothing = refl
   good-command (look_up p x e f) shape nothing =
@@ -192,6 +194,7 @@ module _ (d : Setting) (s : State) (rest : List Item) (p : Place) (b : List (Opt
   good-given (also (holds q (Differ x y)) cs) shape = refl
   good-given (also (points q x fs) cs) shape = few-some (operands (also (points q x fs) cs)) _ shape.front.1 refl
   good-given (also (segment q next x y) cs) shape = refl
+  good-given (also (doubly q next back x l y z) cs) shape = refl
   good-given (also (tree q left right x) cs) shape = refl
 
 -- Steps of subtraction, whatever else is wanted
@@ -206,16 +209,22 @@ then-any : {X Y Z : Type 0} (f g : Y → Z) (h : X → Option Y) (o : Option X)
 then-any f g h None e = absurd (cc)
 then-any f g h (Some x) e = map-any f g (h x) e
 
+cond-any : {X : Type 0} (c : Bool) (x y : X) → is_some (cond c (Some x) None) ≡ true
+    → is_some (cond c (Some y) None) ≡ true
+cond-any true x y e = refl
+cond-any false x y e = absurd (cc)
+
 removed-any : (test : Term → Term → Bool) (s : State) (b : List (Option Term)) (cs ds : Conjuncts Term)
     (o : Option (Term × Term)) → is_some (option_and_then (removed_if test s b cs) o) ≡ true
     → is_some (option_and_then (removed_if test s b ds) o) ≡ true
 removed-any test s b cs ds None e = absurd (cc)
-removed-any test s b cs ds (Some q) e = go (test q.0 q.1) e
-  where
-    go : (c : Bool) → is_some (cond c (Some (removed s b cs)) None) ≡ true
-        → is_some (cond c (Some (removed s b ds)) None) ≡ true
-    go true i = refl
-    go false i = absurd (cc)
+removed-any test s b cs ds (Some q) e = cond-any (test q.0 q.1) (removed s b cs) (removed s b ds) e
+
+nothing-any : (s : State) (b : List (Option Term)) (cs ds : Conjuncts Term) (o : Option Atom)
+    → is_some (option_and_then (λ x. cond (is_nothing x) (Some (removed s b cs)) None) o) ≡ true
+    → is_some (option_and_then (λ x. cond (is_nothing x) (Some (removed s b ds)) None) o) ≡ true
+nothing-any s b cs ds None e = absurd (cc)
+nothing-any s b cs ds (Some x) e = cond-any (is_nothing x) (removed s b cs) (removed s b ds) e
 
 bind-any : (s : State) (b : List (Option Term)) (c : Conjunct Term) (cs : Conjuncts Term)
     → has_step bind_step s b c ≡ true → is_some (bind_step s b c cs) ≡ true
@@ -228,7 +237,7 @@ same-any s b c cs e =
 
 empty-any : (s : State) (b : List (Option Term)) (c : Conjunct Term) (cs : Conjuncts Term)
     → has_step empty_step s b c ≡ true → is_some (empty_step s b c cs) ≡ true
-empty-any s b c cs e = removed-any same_term s b none cs (wanted_ends b c) e
+empty-any s b c cs e = nothing-any s b none cs (wanted_shape b c) e
 
 cell-any : (a : ℕ) (s : State) (b : List (Option Term)) (c : Conjunct Term) (cs : Conjuncts Term)
     → has_step (cell_step a) s b c ≡ true → is_some (cell_step a s b c cs) ≡ true
@@ -305,7 +314,7 @@ module _ (d : Setting) (s : State) (rest : List Item) (p : Place) (names : List 
           ∙ cond-some (differs s e.0 e.1) (removed s b cs) h))
 
   good-points : (q : Place) (x : Operand Term) (fs : List (FieldId × Operand Term))
-      → IsReady d (wanting (points q x fs)) → NoneIsNothing (wanting (points q x fs)) → (o : Option Term)
+      → IsReady d (wanting (points q x fs)) → NothingIsKnown (wanting (points q x fs)) → (o : Option Term)
       → Good (row_of d (wanting (points q x fs))) (at_points s b (points q x fs) o)
   good-points q x fs shape nothing None = good-split_or d (wanting (points q x fs)) shape no_atom
   good-points q x fs shape nothing (Some u) =
@@ -328,20 +337,20 @@ module _ (d : Setting) (s : State) (rest : List Item) (p : Place) (names : List 
       ∙ cond-some (is_same_shape x.atom w) (removed (handed s f.0 x.atom) b cs)
       (if-so (is_same_shape x.atom w) x.atom f.1 x.is)))
 
-  -- a wanted part that isn't empty has two different ends
-  ends-differ : (c : Conjunct Term) (e : Term × Term) → wanted_ends b c ≡ Some e
-      → takes_if (has_step empty_step s b c) t.Empty ≡ None → same_term e.0 e.1 ≡ false
-  ends-differ c e i h = go (same_term e.0 e.1) refl
+  -- a wanted part that isn't empty isn't nothing
+  not-nothing : (c : Conjunct Term) (x : Atom) → wanted_shape b c ≡ Some x
+      → takes_if (has_step empty_step s b c) t.Empty ≡ None → is_nothing x ≡ false
+  not-nothing c x i h = go (is_nothing x) refl
     where
       no : has_step empty_step s b c ≡ false
       no = if-not (has_step empty_step s b c) (takes t.Empty) h
 
-      go : (r : Bool) → same_term e.0 e.1 ≡ r → r ≡ false
+      go : (r : Bool) → is_nothing x ≡ r → r ≡ false
       go false j = refl
       go true j =
           let yes : has_step empty_step s b c ≡ true =
-          ap (λ o. is_some (option_and_then (removed_if same_term s b none) o)) i
-          ∙ cond-some (same_term e.0 e.1) (removed s b none) j in
+          ap (λ o. is_some (option_and_then (λ y. cond (is_nothing y) (Some (removed s b none)) None) o)) i
+          ∙ cond-some (is_nothing x) (removed s b none) j in
           absurd (let both : true ≡ false = sym yes ∙ no in cc)
 
   both-below : (c : Conjunct Term) → IsReady d (wanting c) → (x y : Operand Term) (e : Term × Term)
@@ -380,11 +389,11 @@ module _ (d : Setting) (s : State) (rest : List Item) (p : Place) (names : List 
           step true k =
               let w = found-at (segment_at e.0) s.atoms shape.rising f.0 f.1 j in
               by-step (segment q next x y) (t.Join f.0) (join_step f.0) refl shape
-              (ap (λ o. is_some (option_and_then
-              (join_there f.0 s b (record { place = q; next = next; from = x; to = y }) cs) o)) i
-              ∙ ap (λ o. is_some (option_and_then (λ z.
+              (ap (λ o. is_some (first_of (option_and_then
+              (join_there f.0 s b (record { place = q; next = next; from = x; to = y }) cs) o) None)) i
+              ∙ ap (λ o. is_some (first_of (option_and_then (λ z.
               option_map (λ v. removed (handed s f.0 z) b (also (list_from
-              (record { place = q; next = next; from = x; to = y }) v e.1) cs)) (joined s f.0 e.0 e.1 z)) o))
+              (record { place = q; next = next; from = x; to = y }) v e.1) cs)) (joined s f.0 e.0 e.1 z)) o) None))
               (w.at ∙ ap Some (segment-is e.0 w.atom f.1 w.is))
               ∙ rw (term-self e.0, k) refl)
           step false k = good-split_or d (wanting (segment q next x y)) shape end_not_allocated
@@ -405,13 +414,13 @@ module _ (d : Setting) (s : State) (rest : List Item) (p : Place) (names : List 
       (λ other. good-or (row_of d (wanting (segment q next x y))) (takes_if (not (differs s e.0 e.1)) (t.Split e.0
       e.1)) _
       (good-if (row_of d (wanting (segment q next x y))) (not (differs s e.0 e.1)) (t.Split e.0 e.1)
-      (λ h. good-split d (wanting (segment q next x y)) shape e.0 e.1 (ends-differ (segment q next x y) e i full)
-      below.0 below.1))
+      (λ h. good-split d (wanting (segment q next x y)) shape e.0 e.1
+      (not-nothing (segment q next x y) (Ls e.0 e.1) shaped full) below.0 below.1))
       (λ differ. good-or (row_of d (wanting (segment q next x y))) (begins_with s e.0 t.Head) _
       (good-map (row_of d (wanting (segment q next x y))) (λ f. t.Head f.0) (lowest (λ z. fields_at z e.0) s.atoms)
       (λ f j. by-step (segment q next x y) (t.Head f.0) (head_step f.0) refl shape
-      (ap (λ o. is_some (option_and_then
-      (head_there f.0 s b (record { place = q; next = next; from = x; to = y }) cs) o)) i
+      (ap (λ o. is_some (first_of (option_and_then
+      (head_there f.0 s b (record { place = q; next = next; from = x; to = y }) cs) o) None)) i
       ∙ rw (
         not-false (differs s e.0 e.1) (if-not (not (differs s e.0 e.1)) (takes (t.Split e.0 e.1)) differ),
         cell-found d (wanting (segment q next x y)) shape e.0 f j,
@@ -425,6 +434,124 @@ module _ (d : Setting) (s : State) (rest : List Item) (p : Place) (names : List 
 
       below : IsBelow s.next_sym e.0 × IsBelow s.next_sym e.1
       below = both-below (segment q next x y) shape x y e (inl (inl refl)) (inl (inr refl)) i
+
+  -- the four terms of a wanted doubly linked segment, as two pairs
+  four-parts : (x p l y : Operand Term) (w : Term × Term × Term × Term) → four b x p l y ≡ Some w
+      → (both b x p ≡ Some (w.0, w.1)) × (both b l y ≡ Some (w.2, w.3))
+  four-parts x p l y w i = go (both b x p) (both b l y) refl refl i
+    where
+      go : (o r : Option (Term × Term)) → both b x p ≡ o → both b l y ≡ r
+          → option_and_then (λ e. option_map (λ f. (e.0, e.1, f.0, f.1)) r) o ≡ Some w
+          → (both b x p ≡ Some (w.0, w.1)) × (both b l y ≡ Some (w.2, w.3))
+      go None r j k e = absurd (cc)
+      go (Some u) None j k e = absurd (cc)
+      go (Some u) (Some v) j k e =
+          let same = same_Some (u.0, u.1, v.0, v.1) w e in (
+            j ∙ ap (λ (z : Term × Term × Term × Term). Some (z.0, z.1)) same,
+            k ∙ ap (λ (z : Term × Term × Term × Term). Some (z.2, z.3)) same,
+          )
+
+  -- a field that is known to have a term fits
+  fits-known : (f : Fit) (o : Option Term) (u : Term) → has_term u o ≡ true → fit_known f o u ≡ Some f
+  fits-known f None u e = absurd (cc)
+  fits-known f (Some v) u e = ap (λ c. cond c (Some f) None) e
+
+  module _ (w : WantedDouble) (ends : Term × Term × Term × Term) where
+    abbrev double : Conjunct Term
+    double = doubly w.place w.next w.back w.from w.before w.last w.to
+
+    good-first-part : IsReady d (wanting double) → four b w.from w.before w.last w.to ≡ Some ends
+        → (o : Option (ℕ × (Term × Term × Term))) → lowest (double_at ends.0) s.atoms ≡ o
+        → Good (row_of d (wanting double)) (at_first_part s ends.1 ends.3 o)
+    good-first-part shape i None j = good-split_or d (wanting double) shape no_atom
+    good-first-part shape i (Some f) j =
+        step (same_term f.1.0 ends.1) (is_constant ends.3 || allocated s ends.3 (Some f.0)) refl refl
+      where
+        step : (r e : Bool) → same_term f.1.0 ends.1 ≡ r → is_constant ends.3 || allocated s ends.3 (Some f.0) ≡ e
+            → Good (row_of d (wanting double))
+            (cond r (cond e (takes (t.Join f.0)) (split_or s end_not_allocated)) (split_or s not_equal))
+        step true true k m =
+            let v = found-at (double_at ends.0) s.atoms shape.rising f.0 f.1 j in
+            by-step double (t.Join f.0) (join_step f.0) refl shape
+            (ap (λ o. is_some (option_and_then (double_join_there f.0 s b w cs) o)) i
+            ∙ ap (λ o. is_some (option_and_then (λ z.
+            option_map (λ e. removed (handed s f.0 z) b (also (double_from w e.0 e.1 ends.2 ends.3) cs))
+            (double_joined s f.0 ends.0 ends.1 ends.3 z)) o))
+            (v.at ∙ ap Some (double-is ends.0 v.atom f.1 v.is))
+            ∙ rw (term-self ends.0, k, m) refl)
+        step true false k m = good-split_or d (wanting double) shape end_not_allocated
+        step false e k m = good-split_or d (wanting double) shape not_equal
+
+    good-first-cell : IsReady d (wanting double) → four b w.from w.before w.last w.to ≡ Some ends
+        → differs s ends.0 ends.3 ≡ true → (other : Choice) → Good (row_of d (wanting double)) other
+        → (o : Option (ℕ × List (FieldId × Term))) → lowest (λ z. fields_at z ends.0) s.atoms ≡ o
+        → Good (row_of d (wanting double)) (at_first_cell s ends.1 other (option_map (field_of w.back) o))
+    good-first-cell shape i apart other h None j = h
+    good-first-cell shape i apart other h (Some f) j = step (has_term ends.1 (field_term f.1 w.back)) refl
+      where
+        step : (r : Bool) → has_term ends.1 (field_term f.1 w.back) ≡ r
+            → Good (row_of d (wanting double)) (cond r (takes (t.Head f.0)) (split_or s not_equal))
+        step true k =
+            by-step double (t.Head f.0) (head_step f.0) refl shape
+            (ap (λ o. is_some (option_and_then (double_head_there f.0 s b w cs) o)) i
+            ∙ rw (
+              apart,
+              cell-found d (wanting double) shape ends.0 f j,
+              fits-known (first_fit s f.1 b) (field_term f.1 w.back) ends.1 k,
+            ) refl)
+        step false k = good-split_or d (wanting double) shape not_equal
+
+    good-open-double : IsReady d (wanting double) → four b w.from w.before w.last w.to ≡ Some ends
+        → same_term ends.0 ends.3 ≡ false → Good (row_of d (wanting double)) (at_open_double s w.back ends)
+    good-open-double shape i j =
+        good-or (row_of d (wanting double)) (takes_if (not (differs s ends.0 ends.3)) (t.Split ends.0 ends.3)) _
+        (good-if (row_of d (wanting double)) (not (differs s ends.0 ends.3)) (t.Split ends.0 ends.3)
+        (λ h. good-split d (wanting double) shape ends.0 ends.3 j first.0 second.1))
+        (λ apart. good-first-cell shape i
+        (not-false (differs s ends.0 ends.3)
+        (if-not (not (differs s ends.0 ends.3)) (takes (t.Split ends.0 ends.3)) apart))
+        (at_first_part s ends.1 ends.3 (lowest (double_at ends.0) s.atoms))
+        (good-first-part shape i (lowest (double_at ends.0) s.atoms) refl)
+        (lowest (λ z. fields_at z ends.0) s.atoms) refl)
+      where
+        pairs : (both b w.from w.before ≡ Some (ends.0, ends.1)) × (both b w.last w.to ≡ Some (ends.2, ends.3))
+        pairs = four-parts w.from w.before w.last w.to ends i
+
+        first : IsBelow s.next_sym ends.0 × IsBelow s.next_sym ends.1
+        first =
+            both-below double shape w.from w.before (ends.0, ends.1) (inl (inl refl)) (inl (inr (inl refl))) pairs.0
+
+        second : IsBelow s.next_sym ends.2 × IsBelow s.next_sym ends.3
+        second =
+            both-below double shape w.last w.to (ends.2, ends.3) (inl (inr (inr (inl refl))))
+            (inl (inr (inr (inr refl)))) pairs.1
+
+  good-double : (w : WantedDouble)
+      → IsReady d (wanting (doubly w.place w.next w.back w.from w.before w.last w.to))
+      → (o : Option (Term × Term × Term × Term)) → four b w.from w.before w.last w.to ≡ o
+      → Good (row_of d (wanting (doubly w.place w.next w.back w.from w.before w.last w.to)))
+      (at_double s b (doubly w.place w.next w.back w.from w.before w.last w.to) w.back o)
+  good-double w shape None i =
+      good-split_or d (wanting (doubly w.place w.next w.back w.from w.before w.last w.to)) shape no_atom
+  good-double w shape (Some e) i =
+      good-or (row_of d (wanting c)) (takes_if (has_step empty_step s b c) t.Empty) _
+      (good-if (row_of d (wanting c)) (has_step empty_step s b c) t.Empty
+      (λ h. by-step c t.Empty empty_step refl shape (empty-any s b c cs h)))
+      (λ full. good-or (row_of d (wanting c)) (exact_atom s (wanted_shape b c)) _
+      (subst (λ (o : Option Atom). GoodIf (row_of d (wanting c)) (exact_atom s o)) (sym shaped)
+      (good-exact c shape (Dll e.0 e.1 e.2 e.3) shaped))
+      (λ other. by-ends (same_term e.0 e.3) refl))
+    where
+      c : Conjunct Term
+      c = doubly w.place w.next w.back w.from w.before w.last w.to
+
+      shaped : wanted_shape b c ≡ Some (Dll e.0 e.1 e.2 e.3)
+      shaped = ap (option_map (λ z. Dll z.0 z.1 z.2 z.3)) i
+
+      by-ends : (r : Bool) → same_term e.0 e.3 ≡ r
+          → Good (row_of d (wanting c)) (cond r (split_or s not_equal) (at_open_double s w.back e))
+      by-ends true j = good-split_or d (wanting c) shape not_equal
+      by-ends false j = good-open-double w e shape i j
 
   good-tree : (q : Place) (left right : FieldId) (x : Operand Term) → IsReady d (wanting (tree q left right x))
       → (o : Option Term) → term_of b x ≡ o
@@ -449,7 +576,7 @@ module _ (d : Setting) (s : State) (rest : List Item) (p : Place) (names : List 
       (split_or s no_atom)
       (good-if (row_of d (wanting (tree q left right x))) (not (differs s u Nil)) (t.Split u Nil)
       (λ h. good-split d (wanting (tree q left right x)) shape u Nil
-      (ends-differ (tree q left right x) (u, Nil) (ap (option_and_then (λ v. Some (v, Nil))) i) full) below refl))
+      (not-nothing (tree q left right x) (Tree u) shaped full) below refl))
       (λ same. good-split_or d (wanting (tree q left right x)) shape no_atom))))
     where
       shaped : wanted_shape b (tree q left right x) ≡ Some (Tree u)
@@ -461,13 +588,17 @@ module _ (d : Setting) (s : State) (rest : List Item) (p : Place) (names : List 
           shape.below.todo.0 x u
           (inl refl) i
 
-  good-wanted : (c : Conjunct Term) → IsReady d (wanting c) → NoneIsNothing (wanting c)
+  good-wanted : (c : Conjunct Term) → IsReady d (wanting c) → NothingIsKnown (wanting c)
       → Good (row_of d (wanting c)) (at_wanted s b c)
   good-wanted (holds q True) shape nothing = good-split_or d (wanting (holds q True)) shape not_equal
   good-wanted (holds q (Equal x y)) shape nothing = good-equality (holds q (Equal x y)) shape
   good-wanted (holds q (Differ x y)) shape nothing = good-inequality q x y shape
   good-wanted (points q x fs) shape nothing = good-points q x fs shape nothing (term_of b x)
   good-wanted (segment q next x y) shape nothing = good-list q next x y shape (both b x y) refl
+  good-wanted (doubly q next back x p l y) shape nothing =
+      good-double
+      (record { place = q; next = next; back = back; from = x; before = p; last = l; to = y })
+      shape (four b x p l y) refl
   good-wanted (tree q left right x) shape nothing = good-tree q left right x shape (term_of b x) refl
   good-wanted (choose q test this that) shape nothing =
       good-choice d (wanting (choose q test this that)) shape b test
@@ -492,7 +623,7 @@ good-want : (d : Setting) (s : State) (rest : List Item) (p : Place) (names : Li
       state = s;
       todo = take p (record { conjuncts = cs; bindings = b }) names ∷ rest;
     })
-    → NoneIsNothing (record {
+    → NothingIsKnown (record {
       state = s;
       todo = take p (record { conjuncts = cs; bindings = b }) names ∷ rest;
     })
@@ -506,7 +637,7 @@ good-want d s rest p names b none shape nothing =
 good-want d s rest p names b (also c cs) shape nothing = good-wanted d s rest p names b cs c shape nothing
 
 good-items : (d : Setting) (s : State) (todo : List Item) → IsReady d (record { state = s; todo = todo })
-    → NoneIsNothing (record { state = s; todo = todo })
+    → NothingIsKnown (record { state = s; todo = todo })
     → Good (row_of d (record { state = s; todo = todo })) (at_items s todo)
 good-items d s [] shape nothing = absurd shape.front
 good-items d s (run c ∷ rest) shape nothing = good-command d s rest c shape nothing
@@ -541,8 +672,10 @@ good-chooses d g shape =
     (good-map (row_of d g) (λ f. t.Force f.0) (lowest_forced g.state g.state.atoms)
     (λ f e. let x = found-forced g.state g.state.atoms shape.rising f.0 f.1 e in
     rw (x.1, x.2) refl))
-    (λ free. good-items d g.state g.todo shape
-    (map-none (λ f. takes (t.Drop f.0)) (lowest (which is_nothing) g.state.atoms) full))))
+    (λ free. good-items d g.state g.todo shape (
+      map-none (λ f. takes (t.Drop f.0)) (lowest (which is_nothing) g.state.atoms) full,
+      map-none (λ f. takes (t.Force f.0)) (lowest_forced g.state g.state.atoms) free,
+    ))))
 
 some-there : {X : Type 0} (o : Option X) → is_some o ≡ true → (x : X) × (o ≡ Some x)
 some-there None e = absurd (cc)

@@ -7,22 +7,23 @@ use Rattle.std.specs.declared.result.Result.TheVariants.{Ok, Err}
 use Rattle.std.specs.Option.{option_and_then, option_map}
 use Rattle.sf_base.specs.declared.ids.FieldId.{FieldId}
 use Rattle.sf_base.specs.declared.place.Place.{Place}
-use Rattle.sf_consume.specs.Subtract.{binding, both, cell_step, first_of, fitting, is_same_shape, one_binding, removed_if, unbound}
+use Rattle.sf_consume.specs.Subtract.{binding, both, cell_step, first_of, fitting, four, is_same_shape, one_binding, removed, removed_if, unbound}
 use Rattle.sf_core.specs.declared.assertion.Operand.{Operand}
 use Rattle.sf_core.specs.declared.assertion.Operand.TheVariants.{Known, Exists}
 use Rattle.sf_core.specs.declared.assertion.Test.{Test}
 use Rattle.sf_core.specs.declared.assertion.Test.TheVariants.{True, Equal, Differ}
-use Rattle.sf_core.specs.Program.Syntax.{Command, assign, look_up, mutate, new, dispose, if, while, call, fork, with, Conjunct, holds, points, segment, tree, choose, Conjuncts, none, also}
-use Rattle.sf_search.specs.Checked.Chooses.{at_command, at_end, at_equality, at_first_wanted, at_given, at_inequality, at_items, at_known, at_list, at_points, at_test, at_tree, at_wanted, begins_with, chooses, exact_atom, found_or, has_step, joins, opened, opened_first, split_by, split_found, split_or, takes_if}
+use Rattle.sf_core.specs.Program.Syntax.{Command, assign, look_up, mutate, new, dispose, if, while, call, fork, with, Conjunct, holds, points, segment, doubly, tree, choose, Conjuncts, none, also}
+use Rattle.sf_search.specs.Checked.Chooses.{at_command, at_double, at_end, at_first_cell, at_first_part, at_equality, at_first_wanted, at_given, at_inequality, at_items, at_known, at_list, at_points, at_test, at_tree, at_wanted, begins_with, chooses, exact_atom, field_of, found_or, has_step, joins, opened, opened_double, opened_either, opened_first, split_by, split_found, split_or, takes_if}
 use Rattle.sf_search.specs.declared.choices.choice.Choice.{Choice}
 use Rattle.sf_search.specs.declared.choices.choice.Choice.TheVariants.{Takes as takes, Stays as stays}
 use Rattle.sf_sym.specs.declared.stuck.Stuck.{Stuck}
 use Rattle.sf_sym.specs.declared.stuck.Stuck.TheVariants.{NoCell as no_cell, NotEqual as not_equal, NotDifferent as not_different, NoAtom as no_atom, Leak as leak, EndNotAllocated as end_not_allocated}
-use Rattle.sf_search.specs.Strategy.{by_test, cell_by, each, for_cell, for_command, for_end, for_first, for_given, for_todo, for_wanted, join, lowest, lowest_by, lowest_forced, one_has_term, open_segment, open_tree, opening, or_else, segment_at, split_test, strategy, tree_at, tried, undecided_ends, when, which, without_list}
+use Rattle.sf_search.specs.Strategy.{by_test, cell_by, each, double_at, first_in, for_cell, for_command, for_double, for_end, for_first, for_first_cell, for_first_part, for_given, for_part, for_todo, for_wanted, has_term, join, last_at, lowest, lowest_by, lowest_forced, one_has_term, open_any, open_double, open_last, open_segment, open_tree, opening, or_else, segment_at, split_test, strategy, tree_at, tried, undecided_ends, when, which, without_list}
 use Rattle.sf_sym.specs.Cells.{fields_at}
+use Rattle.sf_sym.specs.Fields.{field_term}
 use Rattle.sf_sym.specs.Decided.{command_test, is_false, is_true, term_of, test_of_terms}
 use Rattle.sf_sym.specs.declared.atom.Atom.{Atom}
-use Rattle.sf_sym.specs.declared.atom.Atom.TheVariants.{Ls, Tree}
+use Rattle.sf_sym.specs.declared.atom.Atom.TheVariants.{Ls, Tree, Dll}
 use Rattle.sf_sym.specs.declared.atom.Numbered.{Numbered}
 use Rattle.sf_sym.specs.declared.tag.Tag.{Tag}
 use Rattle.sf_sym.specs.declared.tag.Tag.TheVariants as t
@@ -65,29 +66,43 @@ told-split s kind = go (lowest (undecided_ends s) (parts s))
     go (Some (a, e)) = refl
 
 -- CELLS
+told-doubles : (s : State) (u : Term) (kind : Stuck)
+    → or_else (opened_double s u) (split_or s kind) ≡ tried (open_double u s ∷ open_last u s ∷ []) s kind
+told-doubles s u kind = go (lowest (double_at u) s.atoms) (lowest (last_at u) s.atoms)
+  where
+    go : (o : Option (ℕ × (Term × Term × Term))) (p : Option (ℕ × (Term × Term)))
+        → or_else (opened_either s u o p) (split_or s kind)
+        ≡ or_else (option_map (λ x. takes x) (option_map (λ a. opening s u a.1.2 a.0) o))
+        (or_else (option_map (λ x. takes x) (option_map
+        (λ a. cond (differs s a.1.0 a.1.1) (t.Back a.0) (t.Split a.1.0 a.1.1)) p))
+        (tried [] s kind))
+    go (Some a) p = cond-takes (differs s u a.1.2) (t.Unroll a.0) (t.Split u a.1.2)
+    go None (Some a) = cond-takes (differs s a.1.0 a.1.1) (t.Back a.0) (t.Split a.1.0 a.1.1)
+    go None None = told-split s kind
+
 told-open : (s : State) (u : Term) (kind : Stuck)
-    → or_else (opened s u) (split_or s kind) ≡ tried (open_segment u s ∷ open_tree u s ∷ []) s kind
+    → or_else (opened s u) (split_or s kind) ≡ tried (open_any u s) s kind
 told-open s u kind = go (lowest (segment_at u) s.atoms) (lowest (tree_at u) s.atoms)
   where
     go : (o : Option (ℕ × Term)) (p : Option (ℕ × Atom))
-        → or_else (opened_first s u o p) (split_or s kind)
+        → or_else (opened_first s u o p (opened_double s u)) (split_or s kind)
         ≡ or_else (option_map (λ x. takes x) (option_map (λ a. opening s u a.1 a.0) o))
         (or_else (option_map (λ x. takes x) (option_map (λ a. opening s u Nil a.0) p))
-        (tried [] s kind))
+        (tried (open_double u s ∷ open_last u s ∷ []) s kind))
     go (Some (a, w)) p = cond-takes (differs s u w) (t.Unroll a) (t.Split u w)
     go None (Some (a, x)) = cond-takes (differs s u Nil) (t.Unroll a) (t.Split u Nil)
-    go None None = told-split s kind
+    go None None = told-doubles s u kind
 
 told-cell : (s : State) (u : Term) (tag : ℕ → Tag) (kind : Stuck)
     → found_or (λ a. takes (tag a)) (or_else (opened s u) (split_or s kind))
     (lowest (λ x. fields_at x u) s.atoms)
-    ≡ tried (cell_by tag u s ∷ open_segment u s ∷ open_tree u s ∷ []) s kind
+    ≡ tried (cell_by tag u s ∷ open_any u s) s kind
 told-cell s u tag kind = go (lowest (λ x. fields_at x u) s.atoms)
   where
     go : (o : Option (ℕ × List (FieldId × Term)))
         → found_or (λ a. takes (tag a)) (or_else (opened s u) (split_or s kind)) o
         ≡ or_else (option_map (λ x. takes x) (option_map (λ a. tag a.0) o))
-        (tried (open_segment u s ∷ open_tree u s ∷ []) s kind)
+        (tried (open_any u s) s kind)
     go None = told-open s u kind
     go (Some (a, x)) = refl
 
@@ -129,6 +144,7 @@ told-given s b none = refl
 told-given s b (also (holds p test) cs) = refl
 told-given s b (also (points p x fs) cs) = refl
 told-given s b (also (segment p next x y) cs) = refl
+told-given s b (also (doubly p next back x q l y) cs) = refl
 told-given s b (also (tree p left right x) cs) = refl
 told-given s b (also (choose p test this that) cs) = told-choice s (test_of_terms b test)
 
@@ -220,12 +236,12 @@ told-points s b p x fs = go (term_of b x) refl
     go None i = rw i (told-split s no_atom)
     go (Some u) i = found u i (lowest (λ a. fields_at a u) s.atoms)
 
--- a wanted segment or tree between terms is nothing
-told-empty : (s : State) (b : List (Option Term)) (u v : Term)
-    → takes_if (is_some (option_and_then (removed_if same_term s b none) (Some (u, v)))) t.Empty
-    ≡ option_map (λ x. takes x) (when (same_term u v) t.Empty)
-told-empty s b u v =
-    ap (λ z. takes_if z t.Empty) (some-cond (same_term u v) _) ∙ when-takes (same_term u v) t.Empty
+-- a wanted segment or tree is nothing
+told-empty : (s : State) (b : List (Option Term)) (x : Atom)
+    → takes_if (is_some (cond (is_nothing x) (Some (removed s b none)) None)) t.Empty
+    ≡ option_map (λ x. takes x) (when (is_nothing x) t.Empty)
+told-empty s b x =
+    ap (λ z. takes_if z t.Empty) (some-cond (is_nothing x) _) ∙ when-takes (is_nothing x) t.Empty
 
 told-exact : (s : State) (x : Atom) → exact_atom s (Some x)
     ≡ option_map (λ x. takes x) (lowest_by t.Exact (which (λ a. is_same_shape a x)) s)
@@ -271,7 +287,7 @@ told-list s b p next x y = go (both b x y) refl
     go None i = told-split s no_atom
     go (Some (u, v)) i =
         rw i
-        (ap₂ or_else (told-empty s b u v)
+        (ap₂ or_else (told-empty s b (Ls u v))
         (ap₂ or_else (told-exact s (Ls u v))
         (ap₂ or_else (when-takes (not (differs s u v)) (t.Split u v))
         (ap₂ or_else (told-begins s u t.Head) (told-join s u v)))))
@@ -293,10 +309,54 @@ told-tree s b p left right x = go (term_of b x) refl
     go None i = told-split s no_atom
     go (Some u) i =
         rw i
-        (ap₂ or_else (told-empty s b u Nil)
+        (ap₂ or_else (told-empty s b (Tree u))
         (ap₂ or_else (told-exact s (Tree u))
         (ap₂ or_else (told-begins s u t.Node)
         (ap₂ or_else (when-takes (not (differs s u Nil)) (t.Split u Nil)) (told-split s no_atom)))))
+
+-- a wanted doubly linked segment, by the lowest segment at its first term
+told-first-part : (s : State) (p u : Term) (o : Option (ℕ × (Term × Term × Term)))
+    → at_first_part s p u o ≡ for_first_part p u o s
+told-first-part s p u None = told-split s no_atom
+told-first-part s p u (Some a) =
+    go (same_term a.1.0 p) (is_constant u || allocated s u (Some a.0))
+  where
+    go : (r c : Bool)
+        → cond r (cond c (takes (t.Join a.0)) (split_or s end_not_allocated)) (split_or s not_equal)
+        ≡ cond r (tried (when c (t.Join a.0) ∷ []) s end_not_allocated) (tried [] s not_equal)
+    go true true = refl
+    go true false = told-split s end_not_allocated
+    go false c = told-split s not_equal
+
+-- or by the lowest cell there
+told-part : (s : State) (back : FieldId) (w : Term × Term × Term × Term)
+    (o : Option (ℕ × List (FieldId × Term)))
+    → at_first_cell s w.1 (at_first_part s w.1 w.3 (lowest (double_at w.0) s.atoms))
+    (option_map (field_of back) o)
+    ≡ for_part back w o s
+told-part s back w None = told-first-part s w.1 w.3 (lowest (double_at w.0) s.atoms)
+told-part s back w (Some a) = go (has_term w.1 (field_term a.1 back))
+  where
+    go : (r : Bool) → cond r (takes (t.Head a.0)) (split_or s not_equal)
+        ≡ tried (when r (t.Head a.0) ∷ []) s not_equal
+    go true = refl
+    go false = told-split s not_equal
+
+told-double : (s : State) (b : List (Option Term)) (q : Place) (next back : FieldId) (x p l y : Operand Term)
+    → at_double s b (doubly q next back x p l y) back (four b x p l y)
+    ≡ for_wanted (doubly q next back x p l y) b s
+told-double s b q next back x p l y = go (four b x p l y) refl
+  where
+    go : (o : Option (Term × Term × Term × Term)) → four b x p l y ≡ o
+        → at_double s b (doubly q next back x p l y) back o ≡ for_double back o s
+    go None i = told-split s no_atom
+    go (Some w) i =
+        rw i
+        (ap₂ or_else (told-empty s b (Dll w.0 w.1 w.2 w.3))
+        (ap₂ or_else (told-exact s (Dll w.0 w.1 w.2 w.3))
+        (ap₂ (cond (same_term w.0 w.3)) (told-split s not_equal)
+        (ap₂ or_else (when-takes (not (differs s w.0 w.3)) (t.Split w.0 w.3))
+        (told-part s back w (lowest (λ a. fields_at a w.0) s.atoms))))))
 
 told-wanted : (s : State) (b : List (Option Term)) (c : Conjunct Term)
     → at_wanted s b c ≡ for_wanted c b s
@@ -305,6 +365,7 @@ told-wanted s b (holds p (Equal x y)) = told-equality s b p x y
 told-wanted s b (holds p (Differ x y)) = told-inequality s b p x y
 told-wanted s b (points p x fs) = told-points s b p x fs
 told-wanted s b (segment p next x y) = told-list s b p next x y
+told-wanted s b (doubly q next back x p l y) = told-double s b q next back x p l y
 told-wanted s b (tree p left right x) = told-tree s b p left right x
 told-wanted s b (choose p test this that) = told-choice s (test_of_terms b test)
 

@@ -2,16 +2,16 @@
 -- nothing of it applies.
 -- Berdine, Calcagno, O'Hearn, "Smallfoot" (2005): proof search by symbolic execution, in this
 -- project's own profile.
-use Rattle.std.specs.Prelude.{ℕ, Bool, true, false, ◌||◌, not, cond, is_some, nat_lt, Option, Some, None, List, [], ◌∷◌}
+use Rattle.std.specs.Prelude.{ℕ, Bool, true, false, ◌&&◌, ◌||◌, not, cond, is_some, nat_lt, Option, Some, None, List, [], ◌∷◌}
 use Rattle.std.specs.Option.{option_map, option_and_then}
 use Rattle.sf_base.specs.declared.ids.FieldId.{FieldId}
-use Rattle.sf_consume.specs.Subtract.{both, fitting, is_same_shape}
+use Rattle.sf_consume.specs.Subtract.{both, fitting, four, is_same_shape}
 use Rattle.sf_core.specs.declared.assertion.Operand.{Operand}
 use Rattle.sf_core.specs.declared.assertion.Test.{Test}
 use Rattle.sf_core.specs.declared.assertion.Test.TheVariants.{True, Equal, Differ}
-use Rattle.sf_core.specs.Program.Syntax.{Conjunct, holds, points, segment, tree, choose, Conjuncts, none, also, Command, assign, look_up, mutate, new, dispose, if, while, call, fork, with}
+use Rattle.sf_core.specs.Program.Syntax.{Conjunct, holds, points, segment, doubly, tree, choose, Conjuncts, none, also, Command, assign, look_up, mutate, new, dispose, if, while, call, fork, with}
 use Rattle.sf_sym.specs.declared.atom.Atom.{Atom}
-use Rattle.sf_sym.specs.declared.atom.Atom.TheVariants.{Points, Ls, Tree}
+use Rattle.sf_sym.specs.declared.atom.Atom.TheVariants.{Points, Ls, Tree, Dll}
 use Rattle.sf_sym.specs.declared.atom.Numbered.{Numbered}
 use Rattle.sf_search.specs.declared.choices.choice.Choice.{Choice}
 use Rattle.sf_search.specs.declared.choices.choice.Choice.TheVariants.{Takes as takes, Stays as stays}
@@ -22,6 +22,7 @@ use Rattle.sf_sym.specs.declared.tag.Tag.TheVariants as t
 use Rattle.sf_sym.specs.declared.term.Term.{Term}
 use Rattle.sf_sym.specs.declared.term.Term.TheVariants.{Nil}
 use Rattle.sf_sym.specs.Cells.{fields_at}
+use Rattle.sf_sym.specs.Fields.{field_term}
 use Rattle.sf_sym.specs.Decided.{command_test, is_false, is_true, term_of, test_of_terms}
 use Rattle.sf_sym.specs.Goal.{Item, run, add, take, gave, head, again, exit, return, end, Goal}
 use Rattle.sf_sym.specs.State.{State, term}
@@ -44,17 +45,38 @@ lowest f (a ∷ rest) = lower (option_map (λ x. (a.number, x)) (f a.atom)) (low
 abbrev pub which : (Atom → Bool) → Atom → Option Atom
 which test a = cond (test a) (Some a) None
 
+-- it is known, and is that term
+abbrev pub has_term : Term → Option Term → Bool
+has_term t None = false
+has_term t (Some u) = same_term u t
+
 -- the end of a segment that begins at the term
 abbrev pub segment_at : Term → Atom → Option Term
 segment_at u (Points v fields) = None
 segment_at u (Ls v w) = cond (same_term v u) (Some w) None
 segment_at u (Tree v) = None
+segment_at u (Dll v p l w) = None
 
 -- a tree with that root
 abbrev pub tree_at : Term → Atom → Option Atom
 tree_at u (Points v fields) = None
 tree_at u (Ls v w) = None
 tree_at u (Tree v) = cond (same_term v u) (Some (Tree v)) None
+tree_at u (Dll v p l w) = None
+
+-- what stands before a doubly linked segment that begins at the term, its last cell, and its end
+abbrev pub double_at : Term → Atom → Option (Term × Term × Term)
+double_at u (Points v fields) = None
+double_at u (Ls v w) = None
+double_at u (Tree v) = None
+double_at u (Dll v p l w) = cond (same_term v u) (Some (p, l, w)) None
+
+-- the first cell and the end of a doubly linked segment of which the term is the last cell
+abbrev pub last_at : Term → Atom → Option (Term × Term)
+last_at u (Points v fields) = None
+last_at u (Ls v w) = None
+last_at u (Tree v) = None
+last_at u (Dll v p l w) = cond (same_term l u) (Some (v, w)) None
 
 -- the lowest atom that is to be empty, and two terms that are the same then
 abbrev pub lowest_forced : State → List Numbered → Option (ℕ × (Term × Term))
@@ -92,6 +114,20 @@ open_segment u s = option_map (λ a. opening s u a.1 a.0) (lowest (segment_at u)
 -- the lowest tree there is opened
 abbrev pub open_tree : Term → State → Option Tag
 open_tree u s = option_map (λ a. opening s u Nil a.0) (lowest (tree_at u) s.atoms)
+
+-- the lowest doubly linked segment that begins there is opened
+abbrev pub open_double : Term → State → Option Tag
+open_double u s = option_map (λ a. opening s u a.1.2 a.0) (lowest (double_at u) s.atoms)
+
+-- the lowest doubly linked segment that ends with the cell there is unrolled from its last cell where it
+-- surely isn't empty, and else its ends are split
+abbrev pub open_last : Term → State → Option Tag
+open_last u s =
+    option_map (λ a. cond (differs s a.1.0 a.1.1) (t.Back a.0) (t.Split a.1.0 a.1.1)) (lowest (last_at u) s.atoms)
+
+-- what may have a cell at the term is opened
+abbrev pub open_any : Term → State → List (Option Tag)
+open_any u s = open_segment u s ∷ open_tree u s ∷ open_double u s ∷ open_last u s ∷ []
 
 -- the ends of the lowest atom or taken atom are split of which it isn't known whether it is empty
 abbrev pub split_any : State → Option Tag
@@ -141,7 +177,7 @@ known s =
 
 -- a command on the cell at that term
 abbrev pub on_cell : (ℕ → Tag) → Term → State → Choice
-on_cell tag u s = tried (cell_by tag u s ∷ open_segment u s ∷ open_tree u s ∷ []) s no_cell
+on_cell tag u s = tried (cell_by tag u s ∷ open_any u s) s no_cell
 
 -- a choice, by its test
 abbrev pub by_test : Option (Test Term) → State → Choice
@@ -184,13 +220,45 @@ abbrev pub for_cell : Operand Term × List (FieldId × Operand Term) → List (O
 for_cell w terms (Some a) s =
     tried (when (is_some (fitting a.0 s terms w)) (t.Cell a.0) ∷ []) s not_equal
 for_cell w terms None s =
-    tried (each (term_of terms w.0) (λ u. open_segment u s ∷ open_tree u s ∷ [])) s no_atom
+    tried (each (term_of terms w.0) (λ u. open_any u s)) s no_atom
 
 -- why a wanted list between these terms isn't there: a segment begins it, or none does
 abbrev pub without_list : Option (Term × Term) → State → Stuck
 without_list e s =
     cond (is_some (option_and_then (λ e. lowest (segment_at e.0) s.atoms) e)) end_not_allocated
     no_atom
+
+-- a wanted doubly linked segment whose ends differ, by the lowest cell at its first term: that begins
+-- it, where what stands before the cell is known and is what is wanted
+abbrev pub for_first_cell : FieldId → (before : Term) → ℕ × List (FieldId × Term) → State → Choice
+for_first_cell back p a s =
+    tried (when (has_term p (field_term a.1 back)) (t.Head a.0) ∷ []) s not_equal
+
+-- else by the lowest segment from there: that begins it, where what stands before both is one term and
+-- the wanted end can't be inside it
+abbrev pub for_first_part : (before to : Term) → Option (ℕ × (Term × Term × Term)) → State → Choice
+for_first_part p u (Some a) s =
+    cond (same_term a.1.0 p)
+    (tried (when (is_constant u || allocated s u (Some a.0)) (t.Join a.0) ∷ []) s end_not_allocated)
+    (tried [] s not_equal)
+for_first_part p u None s = tried [] s no_atom
+
+-- by what is there
+abbrev pub for_part : FieldId → Term × Term × Term × Term → Option (ℕ × List (FieldId × Term)) → State → Choice
+for_part back w (Some a) s = for_first_cell back w.1 a s
+for_part back w None s = for_first_part w.1 w.3 (lowest (double_at w.0) s.atoms) s
+
+-- a wanted doubly linked segment between these terms
+abbrev pub for_double : FieldId → Option (Term × Term × Term × Term) → State → Choice
+for_double back None s = tried [] s no_atom
+for_double back (Some w) s =
+    first_in
+    (when (same_term w.0 w.3 && same_term w.1 w.2) t.Empty
+    ∷ lowest_by t.Exact (which (λ a. is_same_shape a (Dll w.0 w.1 w.2 w.3))) s
+    ∷ [])
+    (cond (same_term w.0 w.3) (tried [] s not_equal)
+    (first_in (when (not (differs s w.0 w.3)) (t.Split w.0 w.3) ∷ [])
+    (for_part back w (lowest (λ a. fields_at a w.0) s.atoms) s)))
 
 -- one wanted conjunct; nothing is tried of what is always true, which no assertion says
 abbrev pub for_wanted : Conjunct Term → List (Option Term) → State → Choice
@@ -215,6 +283,7 @@ for_wanted (segment p next x y) terms s =
     ∷ join e s
     ∷ []))
     s (without_list (both terms x y) s)
+for_wanted (doubly q next back x p l y) terms s = for_double back (four terms x p l y) s
 for_wanted (tree p left right x) terms s =
     tried
     (each (term_of terms x) (λ u.

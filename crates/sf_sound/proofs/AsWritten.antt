@@ -160,6 +160,7 @@ module _ (d : Setting) (kept : IsAsWritten d) where
   row_of-same g (t.Force a) h = refl
   row_of-same g (t.Split x y) h = refl
   row_of-same g (t.Unroll a) h = refl
+  row_of-same g (t.Back a) h = refl
   row_of-same g t.Assign h = refl
   row_of-same g (t.Look a) h = refl
   row_of-same g (t.Mutate a) h = refl

@@ -11,7 +11,7 @@ use Rattle.sf_core.specs.Assertions.Occurs.{OccursIn, OccursInAll, OccursInOne, 
 use Rattle.sf_core.specs.Assertions.Sat.{value}
 use Rattle.sf_core.specs.declared.assertion.Operand.{Operand}
 use Rattle.sf_core.specs.Program.Formed.{AssertionWithin}
-use Rattle.sf_core.specs.Program.Syntax.{Assertion, Conjunct, holds, points, segment, tree, choose, Conjuncts, none, also, Level, level}
+use Rattle.sf_core.specs.Program.Syntax.{Assertion, Conjunct, holds, points, segment, doubly, tree, choose, Conjuncts, none, also, Level, level}
 use Rattle.sf_precise.specs.Checked.Laws.{OrderKeepsMeaning, OrderedIsDetermined}
 use Rattle.sf_precise.specs.Order.{IsFirstReady, IsOrder, IsOrderFrom, IsOrderInside, IsOrderOf, IsOrderWithin}
 use Rattle.sf_rules.specs.Setting.{Setting}
@@ -46,6 +46,7 @@ module _ {E : Type 0} (x : Operand E) where
     within-occurs known c (holds q t) i o = subst (λ z. OccursInOne z x) (sym i) o
     within-occurs known c (points q y fs) i o = subst (λ z. OccursInOne z x) (sym i) o
     within-occurs known c (segment q next y z) i o = subst (λ z. OccursInOne z x) (sym i) o
+    within-occurs known c (doubly q next back y b l z) i o = subst (λ z. OccursInOne z x) (sym i) o
     within-occurs known c (tree q left right y) i o = subst (λ z. OccursInOne z x) (sym i) o
     within-occurs known c (choose q t this that) i (inl o) = subst (λ z. OccursInOne z x) (sym i.2) (inl o)
     within-occurs known c (choose q t this that) i (inr (inl o)) =

@@ -6,13 +6,13 @@ use Rattle.sf_base.specs.declared.place.Place.{Place}
 use Rattle.sf_core.specs.declared.assertion.Test.{Test}
 use Rattle.sf_core.specs.declared.command.Expr.{Expr}
 use Rattle.sf_core.specs.Program.Syntax.{Block, if}
-use Rattle.sf_normal.specs.Knowledge.{absurd_row, drop_row, force_row, split_row, unroll_row}
-use Rattle.sf_normal.specs.Checked.Laws.{AbsurdKeepsGoals, DropKeepsGoals, ForceKeepsGoals, SplitKeepsGoals, UnrollKeepsGoals}
+use Rattle.sf_normal.specs.Knowledge.{absurd_row, back_row, drop_row, force_row, split_row, unroll_row}
+use Rattle.sf_normal.specs.Checked.Laws.{AbsurdKeepsGoals, BackKeepsGoals, DropKeepsGoals, ForceKeepsGoals, SplitKeepsGoals, UnrollKeepsGoals}
 use Rattle.sf_produce.specs.Add.{operands}
 use Rattle.sf_rules.specs.Checked.Lemmas.{few-left}
 use Rattle.sf_rules.specs.Checked.LawsOfCommands.{AssignFollowsEvent, LookFollowsEvent, MutateFollowsEvent, NewFollowsEvent, DisposeFollowsEvent, ThenFollowsTest, ElseFollowsTest}
 use Rattle.sf_rules.specs.Checked.LawsOfConjuncts.{AssumeKeepsGoals, AssumedBranchKeepsGoals, SubtractionLeavesRest, ShownBranchLeavesRest}
-use Rattle.sf_rules.specs.Checked.RowCases.{Rows, RowsHaveCases, by_absurd, by_add, by_again, by_around, by_assign, by_call, by_choice, by_choice_assumed, by_choice_shown, by_dispose, by_drop, by_end, by_enter, by_exit, by_force, by_fork, by_give, by_look, by_loop, by_mutate, by_new, by_return, by_split, by_step, by_unroll}
+use Rattle.sf_rules.specs.Checked.RowCases.{Rows, RowsHaveCases, by_absurd, by_add, by_again, by_around, by_assign, by_back, by_call, by_choice, by_choice_assumed, by_choice_shown, by_dispose, by_drop, by_end, by_enter, by_exit, by_force, by_fork, by_give, by_look, by_loop, by_mutate, by_new, by_return, by_split, by_step, by_unroll}
 use Rattle.sf_rules.specs.Checked.Rows.Add.{assume_row}
 use Rattle.sf_rules.specs.Checked.Rows.Branches.{branch_row}
 use Rattle.sf_rules.specs.Checked.Rows.Take.{subtract_row}
@@ -28,7 +28,7 @@ use Rattle.sf_sound.proofs.Loops.{loop-claims}
 use Rattle.sf_sound.proofs.RegionEnds.{exit-claims}
 use Rattle.sf_sound.proofs.Regions.{enter-claims}
 use Rattle.sf_sound.proofs.Restating.{assumed-claims, restated-claims, shown-claims}
-use Rattle.sf_rules.specs.Checked.Lemmas.StateChildren.{absurd-stays, add-stays, choice-stays, drop-stays, force-stays, split-stays, unroll-stays}
+use Rattle.sf_rules.specs.Checked.Lemmas.StateChildren.{absurd-stays, add-stays, back-stays, choice-stays, drop-stays, force-stays, split-stays, unroll-stays}
 use Rattle.sf_rules.specs.Checked.Lemmas.Subtracting.{chosen-lists, subtract-lists}
 use Rattle.sf_sound.specs.Checked.Suits.{Claim}
 use Rattle.sf_sym.specs.declared.tag.Tag.{Tag}
@@ -46,6 +46,7 @@ pub record RowLaws : Type 0 where
   pub force_law : ForceKeepsGoals
   pub split_law : SplitKeepsGoals
   pub unroll_law : UnrollKeepsGoals
+  pub back_law : BackKeepsGoals
   pub assign_law : AssignFollowsEvent
   pub look_law : LookFollowsEvent
   pub mutate_law : MutateFollowsEvent
@@ -98,6 +99,11 @@ module _ (laws : RowLaws) (d : Setting) (goal : Goal) (left : List Goal) (shape 
   unroll-claims a e =
       restated-claims d goal left shape (λ b. laws.unroll_law a goal left b e) (λ o. unroll-stays goal left a o e) claims
 
+  back-claims : (a : ℕ) → back_row goal a ≡ Some left → Claim d goal
+  unfolding BackKeepsGoals
+  back-claims a e =
+      restated-claims d goal left shape (λ b. laws.back_law a goal left b e) (λ o. back-stays goal left a o e) claims
+
   add-claims : (q : Place) (given : Pending) (rest : List Item)
       → HasShape (record { state = s; todo = add q given ∷ rest }) → assume_row s q given rest ≡ Some left
       → Claim d (record { state = s; todo = add q given ∷ rest })
@@ -143,6 +149,7 @@ module _ (laws : RowLaws) (d : Setting) (goal : Goal) (left : List Goal) (shape 
   cases-claim (by_force a e) = force-claims a e
   cases-claim (by_split x y e) = split-claims x y e
   cases-claim (by_unroll a e) = unroll-claims a e
+  cases-claim (by_back a e) = back-claims a e
   cases-claim (by_assign q x e rest is row) =
       in-front _ is (assign-claims d s rest left claims laws.assign_law q x e row (front _ is))
   cases-claim (by_look a q x e f rest is row) =

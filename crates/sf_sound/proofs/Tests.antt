@@ -9,7 +9,7 @@ use Rattle.sf_base.specs.declared.place.Place.{Place}
 use Rattle.sf_base.specs.declared.value.Value.{Value}
 use Rattle.sf_base.specs.declared.value.Value.TheVariants.{Nil as nil}
 use Rattle.sf_base.specs.HeapStore.{Heap, IsEmpty}
-use Rattle.sf_core.proofs.Assertions.Sat.{value-which}
+use Rattle.sf_core.proofs.Assertions.Values.{value-which}
 use Rattle.sf_core.specs.Assertions.Sat.{IsTrueOf, value}
 use Rattle.sf_core.specs.declared.assertion.Test.{Test}
 use Rattle.sf_core.specs.declared.assertion.Test.TheVariants.{True, Equal, Differ}

@@ -6,7 +6,8 @@ ghost use Rattle.sf_sound.specs.Proofs.{ProofsAreSound};
 
 use sf_calls::laws::{changes_are_assigned, first_breach_is_broken};
 use sf_normal::laws::{
-    absurd_keeps_goals, drop_keeps_goals, force_keeps_goals, split_keeps_goals, unroll_keeps_goals,
+    absurd_keeps_goals, back_keeps_goals, drop_keeps_goals, force_keeps_goals, split_keeps_goals,
+    unroll_keeps_goals,
 };
 use sf_precise::laws::{
     determined_has_order, order_keeps_form, order_keeps_meaning, ordered_is_determined,
@@ -33,6 +34,7 @@ pub fn proved_bodies_are_locally_safe()
     force_keeps_goals();
     split_keeps_goals();
     unroll_keeps_goals();
+    back_keeps_goals();
     assign_follows_event();
     look_follows_event();
     mutate_follows_event();

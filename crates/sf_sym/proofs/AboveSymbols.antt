@@ -15,7 +15,7 @@ use Rattle.sf_core.specs.declared.assertion.Operand.{Operand}
 use Rattle.sf_core.specs.declared.assertion.Operand.TheVariants.{Known, Exists}
 use Rattle.sf_core.specs.declared.assertion.Test.{Test}
 use Rattle.sf_core.specs.declared.assertion.Test.TheVariants.{True, Equal, Differ}
-use Rattle.sf_core.specs.Program.Syntax.{Conjunct, holds, points, segment, tree, choose, Level, level, Conjuncts, none, also}
+use Rattle.sf_core.specs.Program.Syntax.{Conjunct, holds, points, segment, doubly, tree, choose, Level, level, Conjuncts, none, also}
 use Rattle.sf_core.specs.Program.View.{conjunct_of, conjuncts, level_of}
 use Rattle.sf_sym.specs.declared.term.Term.{Term}
 use Rattle.sf_sym.specs.declared.term.Term.TheVariants.{Nil, Int, Sym}
@@ -228,6 +228,12 @@ module _ (to : Term → Term) where
         ap₂ (points p) (same-operand x (λ t e. f t (inl e))) (same-fields fs (λ t o. f t (inr o)))
     same-one (segment p next x y) f =
         ap₂ (segment p next) (same-operand x (λ t e. f t (inl e))) (same-operand y (λ t e. f t (inr e)))
+    same-one (doubly p next back x b l y) f =
+        let one = same-operand x (λ t e. f t (inl e)) in
+        let two = same-operand b (λ t e. f t (inr (inl e))) in
+        let three = same-operand l (λ t e. f t (inr (inr (inl e)))) in
+        let four = same-operand y (λ t e. f t (inr (inr (inr e)))) in
+        λ i. doubly p next back (one i) (two i) (three i) (four i)
     same-one (tree p left right x) f = ap (tree p left right) (same-operand x f)
     same-one (choose p t this that) f =
         ap₂ (λ u (both : Level Term × Level Term). choose p u both.0 both.1) (same-test t (λ x o. f x (inl o)))

@@ -7,7 +7,7 @@ use Rattle.std.proofs.lemmas.Option.{same_Some}
 use Rattle.sf_base.proofs.Elements.{all_by-append}
 use Rattle.sf_base.specs.declared.ids.FieldId.{FieldId}
 use Rattle.sf_sym.specs.declared.atom.Atom.{Atom}
-use Rattle.sf_sym.specs.declared.atom.Atom.TheVariants.{Points, Ls, Tree}
+use Rattle.sf_sym.specs.declared.atom.Atom.TheVariants.{Points, Ls, Tree, Dll}
 use Rattle.sf_sym.specs.declared.atom.Numbered.{Numbered}
 use Rattle.sf_sym.specs.declared.term.Term.{Term}
 use Rattle.sf_sym.specs.Below.{AllInAtom, AllInAtoms, AllInPairs, AllPaired, IsBelow}
@@ -40,6 +40,7 @@ module _ (P Q : Term → Type 0) (to : Term → Term) (step : (t : Term) → P t
   )
   atom-map (Ls t u) a = (step t a.0, step u a.1)
   atom-map (Tree t) a = step t a
+  atom-map (Dll v p l u) a = (step v a.0, step p a.1, step l a.2, step u a.3)
 
   pub atoms-map : (xs : List Numbered) → AllInAtoms P xs → AllInAtoms Q (map (numbered_with to) xs)
   atoms-map = all-map (λ (x : Numbered). AllInAtom P x.atom) (λ (x : Numbered). AllInAtom Q x.atom) (numbered_with to)
@@ -69,6 +70,7 @@ module _ (n symbol : ℕ) (by : Term) (le : n ≤ symbol) where
       (all-same (λ (f : FieldId × Term). IsBelow n f.1) (λ f. (f.0, to f.1)) (λ f b. ap (λ u. (f.0, u)) (same f.1 b)) fields a.1)
   atom-same (Ls t u) a = ap₂ Ls (same t a.0) (same u a.1)
   atom-same (Tree t) a = ap Tree (same t a)
+  atom-same (Dll v p l u) a = λ i. Dll (same v a.0 i) (same p a.1 i) (same l a.2 i) (same u a.3 i)
 
   pub atoms-same : (xs : List Numbered) → AllInAtoms (IsBelow n) xs → map (numbered_with to) xs ≡ xs
   atoms-same =
@@ -130,6 +132,7 @@ module _ (P : Term → Type 0) where
       go false i s = absurd (cc)
   atom-written (Ls v w) t f u fields all p e = absurd (cc)
   atom-written (Tree v) t f u fields all p e = absurd (cc)
+  atom-written (Dll v b l w) t f u fields all p e = absurd (cc)
 
   atoms-fields : (xs : List Numbered) (a : ℕ) (t : Term) (f : FieldId) (u : Term) (fields : List (FieldId × Term))
       → AllInAtoms P xs → P u → cell_at xs a t ≡ Some fields → AllInAtoms P (with_fields xs a t (put_term f u fields))

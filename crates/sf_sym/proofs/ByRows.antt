@@ -1,10 +1,10 @@
 -- Tests that look only at some rows of an index find what the tests of all parts find.
 -- Names: `any-LAW` of whether some row passes, `first-LAW` of which atom comes first.
-use Rattle.std.proofs.Common.{◌≡◌, ℕ, Bool, true, false, ◌&&◌, ◌||◌, not, cond, Option, Some, None, List, [], ◌∷◌, ◌++◌, is_some, refl, sym, ap, ap₂, subst}
+use Rattle.std.proofs.Common.{◌≡◌, ℕ, Bool, true, false, ◌&&◌, ◌||◌, not, Option, Some, List, [], ◌∷◌, ◌++◌, is_some, refl, sym, ap, ap₂, subst}
 use Rattle.std.specs.List.{list_any}
 use Rattle.sf_base.proofs.Bools.{bool-same}
 use Rattle.sf_sym.specs.declared.atom.Atom.{Atom}
-use Rattle.sf_sym.specs.declared.atom.Atom.TheVariants.{Points, Ls, Tree}
+use Rattle.sf_sym.specs.declared.atom.Atom.TheVariants.{Points, Ls, Tree, Dll}
 use Rattle.sf_sym.specs.declared.atom.Numbered.{Numbered}
 use Rattle.sf_sym.specs.declared.outline.Row.{Row}
 use Rattle.sf_sym.specs.declared.store.Store.{Store}
@@ -16,7 +16,7 @@ use Rattle.sf_sym.specs.Checked.Wanted.{all_rows, are_first, is_first, known}
 use Rattle.sf_sym.specs.Known.{forced_by}
 use Rattle.sf_sym.specs.Tests.{allocated, allocates, are_both_allocated, is_left_out, same_term}
 use Rattle.sf_sym.proofs.Members.{any-in, clash, in-any, not-false}
-use Rattle.sf_sym.proofs.Outlines.{bare-test}
+use Rattle.sf_sym.proofs.Outlines.{bare-test, double-pair, end-pair}
 use Rattle.sf_sym.proofs.SameRows.{same_row_is, same_row_self}
 
 pub bare-allocates : (apart : List (Term × Term)) (t : Term) (x : Atom)
@@ -70,20 +70,30 @@ module _ (s : Store) where
       (λ a. ap₂ (λ b c. b && c) (bare-allocates s.apart t a.atom) (all_allocated u (Some a.number)))
       (s.atoms ++ s.taken.items)
 
--- what is forced by its root is so where it would be if that were elsewhere, and it is elsewhere
-pub forced_where_closed : (x : Atom) (p : Bool) → (is_some (forced_by true x) && p) ≡ is_some (forced_by p x)
+-- what is forced is so wherever its root is, or where it would be if that were elsewhere, and it is elsewhere
+pub forced_where_closed : (x : Atom) (p : Bool)
+    → (is_some (forced_by false x) || is_some (forced_by true x) && p) ≡ is_some (forced_by p x)
 forced_where_closed (Points t fields) p = refl
 forced_where_closed (Ls t u) p = go (not (same_term t u)) p
   where
-    go : (a p : Bool) → (is_some {T = Term × Term} (cond (a && true) (Some (t, u)) None) && p)
-        ≡ is_some {T = Term × Term} (cond (a && p) (Some (t, u)) None)
+    go : (a p : Bool) → (is_some (end-pair t u (a && false)) || is_some (end-pair t u (a && true)) && p)
+        ≡ is_some (end-pair t u (a && p))
     go true true = refl
     go true false = refl
     go false p = refl
 forced_where_closed (Tree t) p = go (not (same_term t Nil)) p
   where
-    go : (a p : Bool) → (is_some {T = Term × Term} (cond (a && true) (Some (t, Nil)) None) && p)
-        ≡ is_some {T = Term × Term} (cond (a && p) (Some (t, Nil)) None)
+    go : (a p : Bool) → (is_some (end-pair t Nil (a && false)) || is_some (end-pair t Nil (a && true)) && p)
+        ≡ is_some (end-pair t Nil (a && p))
     go true true = refl
     go true false = refl
     go false p = refl
+forced_where_closed (Dll v b l u) p = go (same_term v u) (same_term b l) p
+  where
+    go : (x y p : Bool)
+        → (is_some (double-pair v b l u x y false) || is_some (double-pair v b l u x y true) && p)
+        ≡ is_some (double-pair v b l u x y p)
+    go true true p = refl
+    go true false p = refl
+    go false y true = refl
+    go false y false = refl

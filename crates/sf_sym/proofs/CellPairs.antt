@@ -1,11 +1,11 @@
 -- One pair more gives cells only to atoms that begin at one of its terms.
-use Rattle.std.proofs.Common.{◌≡◌, ◌⊎◌, inl, inr, true, false, ◌&&◌, not, List, [], ◌∷◌, ◌++◌, refl, sym, ◌∙◌}
+use Rattle.std.proofs.Common.{◌≡◌, ◌⊎◌, inl, inr, true, false, ◌&&◌, ◌||◌, not, List, [], ◌∷◌, ◌++◌, refl, sym, ◌∙◌}
 use Rattle.std.specs.List.{list_any}
 use Rattle.std.proofs.lemmas.Bool.{or_cases, or_left, or_right}
 use Rattle.std.proofs.lemmas.List.Folds.{list_any-append}
 use Rattle.sf_base.proofs.Bools.{and-left, and-right}
 use Rattle.sf_sym.specs.declared.atom.Atom.{Atom}
-use Rattle.sf_sym.specs.declared.atom.Atom.TheVariants.{Points, Ls, Tree}
+use Rattle.sf_sym.specs.declared.atom.Atom.TheVariants.{Points, Ls, Tree, Dll}
 use Rattle.sf_sym.specs.declared.term.Term.{Term}
 use Rattle.sf_sym.specs.declared.term.Term.TheVariants.{Nil}
 use Rattle.sf_sym.specs.Checked.Keeping.{joins}
@@ -31,6 +31,7 @@ pub cell-more : (t u : Term) (ps : List (Term × Term)) (x : Atom) → has_cell 
 cell-more t u ps (Points r fields) e = inl refl
 cell-more t u ps (Ls a b) e = differ-more t u ps a b e
 cell-more t u ps (Tree a) e = differ-more t u ps a Nil e
+cell-more t u ps (Dll a p l b) e = differ-more t u ps a b e
 
 -- such an atom begins at one of them
 pair-at : (t u a b : Term) → is_pair a b (t, u) ≡ true → (same_term a t ≡ true) ⊎ (same_term a u ≡ true)
@@ -48,4 +49,8 @@ joins-at t u (Ls a b) e = elim (pair-at t u a b e) [
 joins-at t u (Tree a) e = elim (pair-at t u a Nil e) [
   | inl h ↦ inl (or_left (same_term a t) false h)
   | inr h ↦ inr (or_left (same_term a u) false h)
+]
+joins-at t u (Dll a p l b) e = elim (pair-at t u a b e) [
+  | inl h ↦ inl (or_left (same_term a t) (same_term l t || false) h)
+  | inr h ↦ inr (or_left (same_term a u) (same_term l u || false) h)
 ]

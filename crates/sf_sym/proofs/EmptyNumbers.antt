@@ -1,6 +1,6 @@
 -- The numbers of the empty parts, as one comes, goes or is found first.
 -- Names: `key-LAW` of the keys of an ordered set of numbers, `empty-LAW` of the numbers of the empty parts.
-use Rattle.std.proofs.Common.{◌≡◌, ℕ, ◌<◌, ◌==◌, Greater, length, Bool, true, false, cond, Option, Some, None, List, [], ◌∷◌, ◌++◌, map, refl, sym, ap, ◌∙◌, subst, arith}
+use Rattle.std.proofs.Common.{◌≡◌, ℕ, ◌<◌, ◌==◌, Greater, length, Bool, true, false, cond, Some, None, List, [], ◌∷◌, ◌++◌, refl, sym, ap, ◌∙◌, subst, arith}
 use Rattle.std.specs.BTreeMap.{is_at}
 use Rattle.std.specs.BTreeSet.{insert_key}
 use Rattle.std.specs.Cmp.{nat_cmp_is}
@@ -14,7 +14,7 @@ use Rattle.sf_sym.specs.declared.atom.Numbered.{Numbered}
 use Rattle.sf_sym.specs.declared.outline.Row.{Row}
 use Rattle.sf_sym.specs.Cells.{without}
 use Rattle.sf_sym.specs.Checked.Empties.{empties, empty_numbers}
-use Rattle.sf_sym.specs.Checked.Keeping.{is_empty, rows_of}
+use Rattle.sf_sym.specs.Checked.Keeping.{is_empty}
 use Rattle.sf_sym.specs.Checked.Rows.{row_of}
 use Rattle.sf_sym.specs.Known.{first_nothing, is_nothing}
 use Rattle.sf_sym.specs.Numbers.{AreRising, numbers}

@@ -13,6 +13,7 @@ pub mod Lowest
 pub mod SameTerms
 pub mod Indexed
 pub mod PairSets
+pub mod TermSets
 pub mod Members
 pub mod Outlines
 pub mod SameRows

@@ -3,16 +3,16 @@
 use Rattle.std.proofs.Common.{◌≡◌, ◌⊎◌, inl, inr, ℕ, ◌<◌, ◌≤◌, nat_lt, ◌==◌, Bool, true, false, ◌&&◌, ◌||◌, not, cond, Option, Some, None, List, [], ◌∷◌, ◌++◌, is_some, refl, sym, ap, ◌∙◌, subst, arith}
 use Rattle.std.specs.List.{AllByRecursion}
 use Rattle.std.specs.Option.{option_and_then, option_map}
-use Rattle.std.proofs.lemmas.Bool.{and_from, or_left, or_parts}
+use Rattle.std.proofs.lemmas.Bool.{and_from, or_left, or_parts, or_right}
 use Rattle.std.proofs.lemmas.Bool.Decides.{Decides-eqb, nat_tests}
-use Rattle.sf_base.proofs.Bools.{and-left, and-right, or_three-parts}
+use Rattle.sf_base.proofs.Bools.{and-left, and-right}
 use Rattle.sf_base.proofs.Elements.{contains-nil}
 use Rattle.sf_base.specs.declared.ids.Var.{Var}
 use Rattle.sf_core.specs.declared.fields.Links.{Links}
 use Rattle.sf_sym.specs.declared.atom.Atom.{Atom}
-use Rattle.sf_sym.specs.declared.atom.Atom.TheVariants.{Points, Ls, Tree}
+use Rattle.sf_sym.specs.declared.atom.Atom.TheVariants.{Points, Ls, Tree, Dll}
 use Rattle.sf_sym.specs.declared.atom.Kind.{Kind}
-use Rattle.sf_sym.specs.declared.atom.Kind.TheVariants.{Cell, Segment, SegmentTo, Tree as Wood}
+use Rattle.sf_sym.specs.declared.atom.Kind.TheVariants.{Cell, Segment, SegmentTo, Tree as Wood, Double, DoubleLast, DoubleTo}
 use Rattle.sf_sym.specs.declared.atom.Numbered.{Numbered}
 use Rattle.sf_sym.specs.declared.found.Wanted.{Wanted}
 use Rattle.sf_sym.specs.declared.found.Wanted.TheVariants.{Forced, At}
@@ -21,19 +21,19 @@ use Rattle.sf_sym.specs.declared.store.Store.{Store}
 use Rattle.sf_sym.specs.declared.term.Term.{Term}
 use Rattle.sf_sym.specs.declared.term.Term.TheVariants.{Nil}
 use Rattle.sf_sym.specs.Cells.{atom_at}
-use Rattle.sf_sym.specs.Checked.Keeping.{In, IsIndexed, IsUnmarked, is_closed, is_empty, is_forced, is_hopeless, rows_of}
+use Rattle.sf_sym.specs.Checked.Keeping.{In, IsIndexed, IsUnmarked, is_closed, is_forced, is_hopeless, rows_of}
 use Rattle.sf_sym.specs.Checked.Rows.{bare, is_marked, outline, row_of, rows_at, same_row}
 use Rattle.sf_sym.specs.Checked.Stores.{Kept, heap, state_in}
 use Rattle.sf_sym.specs.Checked.Wanted.{all_rows, fits, is_found, is_wanted, known, lower, lowest_of}
 use Rattle.sf_sym.specs.Kinds.{is_kind}
-use Rattle.sf_sym.specs.Known.{IsLowest, first_forced, first_nothing, forced_by, forced_pair, is_elsewhere, is_nothing, or_else}
+use Rattle.sf_sym.specs.Known.{IsLowest, first_forced, forced_by, forced_pair, is_elsewhere, or_else}
 use Rattle.sf_sym.specs.Numbers.{AreRising, numbers}
 use Rattle.sf_sym.specs.Tests.{begins, is_constant, root, same_term}
 use Rattle.sf_sym.proofs.ByRows.{all_allocated, marked-in}
 use Rattle.sf_sym.proofs.Hopeless.{each-number}
 use Rattle.sf_sym.proofs.Lowest.{lowest-here, lowest-later}
 use Rattle.sf_sym.proofs.Members.{clash, in-any, in-cases, in-left, in-map, map-in, not-false, not-true}
-use Rattle.sf_sym.proofs.Outlines.{bare-forced, bare-test, bare-nothing, bare-root}
+use Rattle.sf_sym.proofs.Outlines.{bare-forced, bare-test, bare-root, double-pair}
 use Rattle.sf_sym.proofs.SameRows.{same_row_is, same_row_self}
 
 -- the lowest of the best so far and those of these rows that pass
@@ -275,6 +275,12 @@ forced-ends false (Tree t) e = go (not (same_term t Nil)) e
         → cond {A = Option (Term × Term)} (a && true) (Some (t, Nil)) None ≡ cond (a && false) (Some (t, Nil)) None
     go true f = absurd (cc)
     go false f = refl
+forced-ends false (Dll v b l u) e = go (same_term v u) (same_term b l) e
+  where
+    go : (x y : Bool) → is_some (double-pair v b l u x y false) ≡ true
+        → double-pair v b l u x y true ≡ double-pair v b l u x y false
+    go true y f = refl
+    go false y f = absurd (cc)
 
 a-some : {A : Type 0} (o : Option A) → is_some o ≡ true → (x : A) × (o ≡ Some x)
 a-some None e = absurd (cc)
@@ -327,21 +333,43 @@ bare-kind Cell t = bare-test (is_kind Cell t) (λ r fields. refl)
 bare-kind Segment t = bare-test (is_kind Segment t) (λ r fields. refl)
 bare-kind (SegmentTo u) t = bare-test (is_kind (SegmentTo u) t) (λ r fields. refl)
 bare-kind Wood t = bare-test (is_kind Wood t) (λ r fields. refl)
+bare-kind Double t = bare-test (is_kind Double t) (λ r fields. refl)
+bare-kind DoubleLast t = bare-test (is_kind DoubleLast t) (λ r fields. refl)
+bare-kind (DoubleTo q m w) t = bare-test (is_kind (DoubleTo q m w) t) (λ r fields. refl)
 
 -- what is of a kind at a term begins there
 kind-begins : (kind : Kind) (t : Term) (x : Atom) → is_kind kind t x ≡ true → begins t x ≡ true
 kind-begins Cell t (Points v fields) e = or_left (same_term v t) false e
 kind-begins Cell t (Ls v w) e = absurd (cc)
 kind-begins Cell t (Tree v) e = absurd (cc)
+kind-begins Cell t (Dll v p l u) e = absurd (cc)
 kind-begins Segment t (Points v fields) e = absurd (cc)
 kind-begins Segment t (Ls v w) e = or_left (same_term v t) false e
 kind-begins Segment t (Tree v) e = absurd (cc)
+kind-begins Segment t (Dll v p l u) e = absurd (cc)
 kind-begins (SegmentTo u) t (Points v fields) e = absurd (cc)
 kind-begins (SegmentTo u) t (Ls v w) e = or_left (same_term v t) false (and-left (same_term v t) (same_term w u) e)
 kind-begins (SegmentTo u) t (Tree v) e = absurd (cc)
+kind-begins (SegmentTo w) t (Dll v p l u) e = absurd (cc)
 kind-begins Wood t (Points v fields) e = absurd (cc)
 kind-begins Wood t (Ls v w) e = absurd (cc)
 kind-begins Wood t (Tree v) e = or_left (same_term v t) false e
+kind-begins Wood t (Dll v p l u) e = absurd (cc)
+kind-begins Double t (Points v fields) e = absurd (cc)
+kind-begins Double t (Ls v w) e = absurd (cc)
+kind-begins Double t (Tree v) e = absurd (cc)
+kind-begins Double t (Dll v p l u) e = or_left (same_term v t) (same_term l t || false) e
+kind-begins DoubleLast t (Points v fields) e = absurd (cc)
+kind-begins DoubleLast t (Ls v w) e = absurd (cc)
+kind-begins DoubleLast t (Tree v) e = absurd (cc)
+kind-begins DoubleLast t (Dll v p l u) e =
+    or_right (same_term v t) (same_term l t || false) (or_left (same_term l t) false e)
+kind-begins (DoubleTo q m w) t (Points v fields) e = absurd (cc)
+kind-begins (DoubleTo q m w) t (Ls v x) e = absurd (cc)
+kind-begins (DoubleTo q m w) t (Tree v) e = absurd (cc)
+kind-begins (DoubleTo q m w) t (Dll v p l u) e =
+    or_left (same_term v t) (same_term l t || false)
+    (and-left (same_term v t) (same_term p q && (same_term l m && same_term u w)) e)
 
 pub at_lowest : (s : Store) → Kept s → (t : Term) (kind : Kind)
     → IsLowest (λ a. is_kind kind t a.atom) s.atoms

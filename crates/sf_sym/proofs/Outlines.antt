@@ -1,10 +1,9 @@
 -- What the tests say of an outline they say of its atom.
-use Rattle.std.proofs.Common.{◌≡◌, Bool, List, [], refl, sym, ap, ◌∙◌}
+use Rattle.std.proofs.Common.{◌≡◌, Bool, cond, Option, Some, None, List, [], refl, sym, ap, ◌∙◌}
 use Rattle.sf_sym.specs.declared.atom.Atom.{Atom}
-use Rattle.sf_sym.specs.declared.atom.Atom.TheVariants.{Points, Ls, Tree}
+use Rattle.sf_sym.specs.declared.atom.Atom.TheVariants.{Points, Ls, Tree, Dll}
 use Rattle.sf_sym.specs.declared.outline.Outline.{Outline}
-use Rattle.sf_sym.specs.declared.outline.Outline.TheVariants.{Cell, Segment, Tree as Wood}
-use Rattle.sf_sym.specs.declared.outline.Row.{Row}
+use Rattle.sf_sym.specs.declared.outline.Outline.TheVariants.{Cell, Segment, Tree as Wood, Double}
 use Rattle.sf_sym.specs.declared.term.Term.{Term}
 use Rattle.sf_sym.specs.Checked.Keeping.{joins}
 use Rattle.sf_sym.specs.Checked.Rows.{bare, outline}
@@ -12,12 +11,20 @@ use Rattle.sf_sym.specs.Equalities.{atom_with}
 use Rattle.sf_sym.specs.Known.{forced_by, is_nothing}
 use Rattle.sf_sym.specs.Tests.{begins, has_cell, is_integer_tree, root, roots}
 
+-- what is forced, by the tests of its terms
+abbrev pub end-pair : (t u : Term) → Bool → Option (Term × Term)
+end-pair t u a = cond a (Some (t, u)) None
+
+abbrev pub double-pair : (v b l u : Term) → (x y z : Bool) → Option (Term × Term)
+double-pair v b l u x y z = cond x (cond y None (Some (b, l))) (cond z (Some (v, u)) None)
+
 -- a test that doesn't look at a cell's fields says the same of an atom and of its outline
 module _ {B : Type 0} (test : Atom → B) (fieldless : (t : Term) (fields : List _) → test (Points t []) ≡ test (Points t fields)) where
   pub bare-test : (x : Atom) → test (bare (outline x)) ≡ test x
   bare-test (Points t fields) = fieldless t fields
   bare-test (Ls t u) = refl
   bare-test (Tree t) = refl
+  bare-test (Dll v p l u) = refl
 
 pub bare-begins : (t : Term) (x : Atom) → begins t (bare (outline x)) ≡ begins t x
 bare-begins t = bare-test (begins t) (λ r fields. refl)
@@ -48,6 +55,7 @@ pub outline-bare : (o : Outline) → outline (bare o) ≡ o
 outline-bare (Cell t) = refl
 outline-bare (Segment t u) = refl
 outline-bare (Wood t) = refl
+outline-bare (Double v p l u) = refl
 
 -- an outline with a symbol replaced is that of the atom with it replaced
 pub outline_with : (to : Term → Term) (o : Outline) (x : Atom) → bare o ≡ atom_with to (bare (outline x))
@@ -58,3 +66,4 @@ outline_with to o x e = sym (outline-bare o) ∙ ap outline e ∙ go x
     go (Points t fields) = refl
     go (Ls t u) = refl
     go (Tree t) = refl
+    go (Dll v p l u) = refl

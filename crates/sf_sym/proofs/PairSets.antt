@@ -73,6 +73,34 @@ same-more t u list set same a b = go (list_any (is_key t u) set) refl ∙ sym (l
         list_any-append (is_ordered a b) set ((t, u) ∷ [])
         ∙ ap (λ x. x || (is_ordered a b (t, u) || false)) (same a b)
 
+-- a pair put into the set is one less to put
+pub one-put : (t u : Term) (list set rest : List (Term × Term)) → AreSame list (set ++ (t, u) ∷ rest)
+    → AreSame list ((if list_any (is_key t u) set then set else set ++ (t, u) ∷ []) ++ rest)
+one-put t u list set rest same a b =
+    list_any-append (is_ordered a b) (if list_any (is_key t u) set then set else set ++ (t, u) ∷ []) rest
+    ∙ ap (λ x. x || list_any (is_ordered a b) rest)
+    (same-more t u set set (λ c d. refl) a b ∙ list_any-append (is_ordered a b) set ((t, u) ∷ []))
+    ∙ shift (list_any (is_ordered a b) set) (is_ordered a b (t, u)) (list_any (is_ordered a b) rest)
+    ∙ sym (list_any-append (is_ordered a b) set ((t, u) ∷ rest))
+    ∙ same a b
+  where
+    shift : (x y z : Bool) → ((x || (y || false)) || z) ≡ (x || (y || z))
+    shift true y z = refl
+    shift false true z = refl
+    shift false false z = refl
+
+-- once all are in the set it is that of the list
+pub all-put : (list set rest : List (Term × Term)) → rest ≡ [] → AreSame list (set ++ rest) → AreSame list set
+all-put list set rest e same a b =
+    sym (shorter (list_any (is_ordered a b) set))
+    ∙ sym (list_any-append (is_ordered a b) set [])
+    ∙ ap (λ xs. list_any (is_ordered a b) (set ++ xs)) (sym e)
+    ∙ same a b
+  where
+    shorter : (x : Bool) → (x || false) ≡ x
+    shorter true = refl
+    shorter false = refl
+
 -- whether a pair of one term is among them, once there is one more
 pub reflexive-more : (r c : Bool) (ps : List (Term × Term)) (t u : Term)
     → r ≡ list_any (λ p. same_term p.0 p.1) ps → c ≡ same_term t u

@@ -4,7 +4,7 @@ use Rattle.std.specs.List.{list_any}
 use Rattle.std.proofs.lemmas.Bool.{and_from, or_cases, or_left, or_right}
 use Rattle.sf_base.proofs.Bools.{and-left, and-right}
 use Rattle.sf_sym.specs.declared.atom.Atom.{Atom}
-use Rattle.sf_sym.specs.declared.atom.Atom.TheVariants.{Points, Ls, Tree}
+use Rattle.sf_sym.specs.declared.atom.Atom.TheVariants.{Points, Ls, Tree, Dll}
 use Rattle.sf_sym.specs.declared.outline.Row.{Row}
 use Rattle.sf_sym.specs.declared.term.Term.{Term}
 use Rattle.sf_sym.specs.declared.term.Term.TheVariants.{Nil}
@@ -13,6 +13,7 @@ use Rattle.sf_sym.specs.Checked.Rows.{bare, is_marked}
 use Rattle.sf_sym.specs.Known.{forced_by}
 use Rattle.sf_sym.specs.Tests.{begins, has_cell, is_constant, is_integer_tree, is_left_out, root, roots, same_term}
 use Rattle.sf_sym.proofs.Members.{any-in, clash, in-any, not-true}
+use Rattle.sf_sym.proofs.Outlines.{double-pair}
 use Rattle.sf_sym.proofs.SameTerms.{same_self}
 
 -- an atom begins at each of its roots
@@ -23,6 +24,7 @@ pub root-in : (x : Atom) → In (root x) (roots x)
 root-in (Points t fields) = inl refl
 root-in (Ls t u) = inl refl
 root-in (Tree t) = inl refl
+root-in (Dll v p l u) = inl refl
 
 -- an atom that is forced where its root is elsewhere by one reckoning is so by a larger one
 forced-more : (p q : Bool) (x : Atom) → (p ≡ true → q ≡ true) → is_some (forced_by p x) ≡ true
@@ -42,6 +44,13 @@ forced-more p q (Tree t) more e = go (not (same_term t Nil)) p q more e
     go true true q m f = ap (λ b. is_some {T = Term × Term} (cond b (Some (t, Nil)) None)) (m refl)
     go true false q m f = absurd (cc)
     go false p q m f = f
+forced-more p q (Dll v b l u) more e = go (same_term v u) (same_term b l) p q more e
+  where
+    go : (x y p q : Bool) → (p ≡ true → q ≡ true) → is_some (double-pair v b l u x y p) ≡ true
+        → is_some (double-pair v b l u x y q) ≡ true
+    go true y p q m f = f
+    go false y true q m f = ap (λ z. is_some (double-pair v b l u false y z)) (m refl)
+    go false y false q m f = absurd (cc)
 
 -- where something is found among the roots by one test, and each root that passes it passes another, it is found by that
 roots-more : (p q : Term → Bool) (x : Atom) → ((t : Term) → begins t x ≡ true → p t ≡ true → q t ≡ true)

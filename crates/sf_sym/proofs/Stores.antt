@@ -9,9 +9,9 @@ use Rattle.std.proofs.lemmas.List.{map-append}
 use Rattle.std.proofs.lemmas.Option.{same_Some}
 use Rattle.sf_base.specs.declared.ids.FieldId.{FieldId}
 use Rattle.sf_sym.specs.declared.atom.Atom.{Atom}
-use Rattle.sf_sym.specs.declared.atom.Atom.TheVariants.{Points, Ls, Tree}
+use Rattle.sf_sym.specs.declared.atom.Atom.TheVariants.{Points, Ls, Tree, Dll}
 use Rattle.sf_sym.specs.declared.atom.Numbered.{Numbered}
-use Rattle.sf_sym.specs.declared.outline.Outline.TheVariants.{Cell, Segment, Tree as Wood}
+use Rattle.sf_sym.specs.declared.outline.Outline.TheVariants.{Cell, Segment, Tree as Wood, Double}
 use Rattle.sf_sym.specs.declared.outline.Row.{Row}
 use Rattle.sf_sym.specs.declared.term.Term.{Term}
 use Rattle.sf_sym.specs.declared.term.Term.TheVariants.{Nil, Int, Sym}
@@ -192,6 +192,7 @@ cell-outline (Points r fields) t e = go (same_term r t) refl e
     go false f s = absurd (cc)
 cell-outline (Ls u v) t e = absurd (cc)
 cell-outline (Tree u) t e = absurd (cc)
+cell-outline (Dll v p l u) t e = absurd (cc)
 
 -- where a cell is, an atom of its outline is
 pub cell-there : (a : ℕ) (xs : List Numbered) (t : Term) → is_some (cell_at xs a t) ≡ true
@@ -476,6 +477,13 @@ module _ (n : ℕ) (by : Term) where
       ap₂ Segment (put-absent n by t ((or_parts (same_term t (Sym n)) (same_term u (Sym n)) e).0))
       (put-absent n by u ((or_parts (same_term t (Sym n)) (same_term u (Sym n)) e).1))
   outline-absent (Tree t) e = ap Wood (put-absent n by t e)
+  outline-absent (Dll v p l u) e =
+      let s = Sym n in
+      let one = or_parts (same_term v s || same_term p s || same_term l s) (same_term u s) e in
+      let two = or_parts (same_term v s || same_term p s) (same_term l s) one.0 in
+      let three = or_parts (same_term v s) (same_term p s) two.0 in
+      λ i. Double (put-absent n by v three.0 i) (put-absent n by p three.1 i) (put-absent n by l two.1 i)
+      (put-absent n by u one.1 i)
 
   pub rows-absent : (xs : List Numbered) → list_any (λ a. has_term (Sym n) a.atom) xs ≡ false
       → rows_of (map (numbered_with (put_for n by)) xs) ≡ rows_of xs
@@ -544,6 +552,7 @@ atom-self n (Points t fields) =
     (map-same (λ f. (f.0, put_for n (Sym n) f.1)) (λ f. ap (λ u. (f.0, u)) (put-self n f.1)) fields)
 atom-self n (Ls t u) = ap₂ Ls (put-self n t) (put-self n u)
 atom-self n (Tree t) = ap Tree (put-self n t)
+atom-self n (Dll v p l u) = λ i. Dll (put-self n v i) (put-self n p i) (put-self n l i) (put-self n u i)
 
 pub parts-self : (n : ℕ) (xs : List Numbered) → map (numbered_with (put_for n (Sym n))) xs ≡ xs
 parts-self n xs =

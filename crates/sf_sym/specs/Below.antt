@@ -6,7 +6,7 @@ use Rattle.sf_base.specs.declared.value.Value.{Value}
 use Rattle.sf_core.specs.Assertions.Occurs.{OccursInAll}
 use Rattle.sf_core.specs.declared.assertion.Operand.TheVariants.{Known}
 use Rattle.sf_sym.specs.declared.atom.Atom.{Atom}
-use Rattle.sf_sym.specs.declared.atom.Atom.TheVariants.{Points, Ls, Tree}
+use Rattle.sf_sym.specs.declared.atom.Atom.TheVariants.{Points, Ls, Tree, Dll}
 use Rattle.sf_sym.specs.declared.atom.Numbered.{Numbered}
 use Rattle.sf_sym.specs.declared.term.Term.{Term}
 use Rattle.sf_sym.specs.declared.term.Term.TheVariants.{Nil, Int, Sym}
@@ -24,6 +24,7 @@ abbrev pub AllInAtom : (Term → Type 0) → Atom → Type 0
 AllInAtom P (Points t fields) = P t × AllPaired P fields
 AllInAtom P (Ls t u) = P t × P u
 AllInAtom P (Tree t) = P t
+AllInAtom P (Dll v p l u) = P v × P p × P l × P u
 
 -- those of atoms
 abbrev pub AllInAtoms : (Term → Type 0) → List Numbered → Type 0

@@ -4,7 +4,7 @@ use Rattle.std.specs.Prelude.{ℕ, ◌+◌, ◌==◌, cond, Option, Some, None, 
 use Rattle.std.specs.Option.{option_map}
 use Rattle.sf_base.specs.declared.ids.FieldId.{FieldId}
 use Rattle.sf_sym.specs.declared.atom.Atom.{Atom}
-use Rattle.sf_sym.specs.declared.atom.Atom.TheVariants.{Points, Ls, Tree}
+use Rattle.sf_sym.specs.declared.atom.Atom.TheVariants.{Points, Ls, Tree, Dll}
 use Rattle.sf_sym.specs.declared.atom.Numbered.{Numbered}
 use Rattle.sf_sym.specs.declared.term.Term.{Term}
 use Rattle.sf_sym.specs.declared.term.Term.TheVariants.{Nil, Int, Sym}
@@ -17,6 +17,7 @@ abbrev pub fields_at : Atom → Term → Option (List (FieldId × Term))
 fields_at (Points root fields) t = cond (same_term root t) (Some fields) None
 fields_at (Ls u v) t = None
 fields_at (Tree u) t = None
+fields_at (Dll v p l u) t = None
 
 -- the fields of the atom of that number, where it is a cell at that term
 abbrev pub cell_at : List Numbered → ℕ → Term → Option (List (FieldId × Term))

@@ -3,7 +3,7 @@
 use Rattle.std.specs.Prelude.{ℕ, ◌==◌, cond, nat_lt, map, Option, Some, None, [], ◌∷◌, ◌++◌}
 use Rattle.std.specs.Option.{option_map}
 use Rattle.sf_sym.specs.declared.atom.Atom.{Atom}
-use Rattle.sf_sym.specs.declared.atom.Atom.TheVariants.{Points, Ls, Tree}
+use Rattle.sf_sym.specs.declared.atom.Atom.TheVariants.{Points, Ls, Tree, Dll}
 use Rattle.sf_sym.specs.declared.atom.Numbered.{Numbered}
 use Rattle.sf_sym.specs.declared.term.Term.{Term}
 use Rattle.sf_sym.specs.declared.term.Term.TheVariants.{Nil, Int, Sym}
@@ -19,6 +19,7 @@ abbrev pub atom_with : (Term → Term) → Atom → Atom
 atom_with to (Points t fields) = Points (to t) (map (λ f. (f.0, to f.1)) fields)
 atom_with to (Ls t u) = Ls (to t) (to u)
 atom_with to (Tree t) = Tree (to t)
+atom_with to (Dll v p l u) = Dll (to v) (to p) (to l) (to u)
 
 -- in a numbered atom, which keeps its number
 abbrev pub numbered_with : (Term → Term) → Numbered → Numbered

@@ -11,7 +11,7 @@ use Rattle.sf_core.specs.declared.assertion.Operand.{Operand}
 use Rattle.sf_core.specs.declared.assertion.Operand.TheVariants.{Known, Exists}
 use Rattle.sf_core.specs.declared.fields.Links.{Links}
 use Rattle.sf_core.specs.Program.Formed.{TestWithin, conjuncts_scopes, is_made}
-use Rattle.sf_core.specs.Program.Syntax.{Conjunct, holds, points, segment, tree, choose, Level, level, Conjuncts, none, also}
+use Rattle.sf_core.specs.Program.Syntax.{Conjunct, holds, points, segment, doubly, tree, choose, Level, level, Conjuncts, none, also}
 use Rattle.sf_sym.specs.declared.term.Term.{Term}
 use Rattle.sf_sym.specs.Goal.{Item, run, add, take, gave, head, again, exit, return, end, Goal}
 use Rattle.sf_sym.specs.Pending.{Pending}
@@ -41,6 +41,9 @@ abbrev mutual
       × (length fs ≤ FIELDS)
   OneFormed links count (segment q next x y) =
       (links.tl ≡ Some next) × IsCounted count x × IsCounted count y
+  OneFormed links count (doubly q next back x b l y) =
+      (links.tl ≡ Some next) × (links.pv ≡ Some back) × IsCounted count x × IsCounted count b × IsCounted count l
+      × IsCounted count y
   OneFormed links count (tree q left right x) =
       (links.l ≡ Some left) × (links.r ≡ Some right) × IsCounted count x
   OneFormed links count (choose q t this that) =

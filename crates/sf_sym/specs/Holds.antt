@@ -7,9 +7,9 @@ use Rattle.sf_base.specs.declared.ids.Var.{Var}
 use Rattle.sf_base.specs.declared.value.Value.{Value}
 use Rattle.sf_base.specs.declared.value.Value.TheVariants.{Nil as nil, Int as int, Loc as loc}
 use Rattle.sf_base.specs.HeapStore.{Cell, Heap, IsEmpty, IsOne, ◌⋆◌}
-use Rattle.sf_core.specs.Assertions.Sat.{HasFields, Seg, Tree as IsTree, SatAll}
+use Rattle.sf_core.specs.Assertions.Sat.{Dseg, HasFields, Seg, Tree as IsTree, SatAll}
 use Rattle.sf_sym.specs.declared.atom.Atom.{Atom}
-use Rattle.sf_sym.specs.declared.atom.Atom.TheVariants.{Points, Ls, Tree}
+use Rattle.sf_sym.specs.declared.atom.Atom.TheVariants.{Points, Ls, Tree, Dll}
 use Rattle.sf_sym.specs.declared.atom.Numbered.{Numbered}
 use Rattle.sf_core.specs.declared.fields.Links.{Links}
 use Rattle.sf_sym.specs.declared.term.Term.{Term}
@@ -37,6 +37,12 @@ abbrev pub SegAlong : Option FieldId → (from to : Value) → Heap → Type 0
 SegAlong None from to heap = ⊥
 SegAlong (Some next) from to heap = Seg next to from heap
 
+-- a doubly linked segment along these fields; there is none where the program lacks one
+abbrev pub DsegAlong : (next back : Option FieldId) → (from before last to : Value) → Heap → Type 0
+DsegAlong None back from before last to heap = ⊥
+DsegAlong (Some next) None from before last to heap = ⊥
+DsegAlong (Some next) (Some back) from before last to heap = Dseg next back last to before from heap
+
 -- a tree along these fields; there is none where the program lacks one
 abbrev pub TreeAlong : (left right : Option FieldId) → (root : Value) → Heap → Type 0
 TreeAlong None right root heap = ⊥
@@ -50,6 +56,8 @@ AtomHolds w links (Points t fields) heap =
     × HasFields (term_value w) fields here
 AtomHolds w links (Ls t u) heap = SegAlong links.tl (term_value w t) (term_value w u) heap
 AtomHolds w links (Tree t) heap = TreeAlong links.l links.r (term_value w t) heap
+AtomHolds w links (Dll v p l u) heap =
+    DsegAlong links.tl links.pv (term_value w v) (term_value w p) (term_value w l) (term_value w u) heap
 
 -- the atoms hold on pairwise disjoint heaps that make up the heap
 abbrev pub AtomsHold : (ℕ → Value) → Links → List Numbered → Heap → Type 0

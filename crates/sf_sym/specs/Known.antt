@@ -3,28 +3,37 @@
 use Rattle.std.specs.Prelude.{◌≡◌, ◌≤◌, ℕ, Bool, true, false, Contains, ◌&&◌, ◌||◌, not, cond, Option, Some, None, List, [], ◌∷◌}
 use Rattle.std.specs.Option.{option_map}
 use Rattle.sf_sym.specs.declared.atom.Atom.{Atom}
-use Rattle.sf_sym.specs.declared.atom.Atom.TheVariants.{Points, Ls, Tree}
+use Rattle.sf_sym.specs.declared.atom.Atom.TheVariants.{Points, Ls, Tree, Dll}
 use Rattle.sf_sym.specs.declared.atom.Numbered.{Numbered}
 use Rattle.sf_sym.specs.declared.term.Term.{Term}
 use Rattle.sf_sym.specs.declared.term.Term.TheVariants.{Nil}
 use Rattle.sf_sym.specs.State.{State}
 use Rattle.sf_sym.specs.Tests.{allocated, is_constant, root, same_term}
 
--- an empty segment or tree: from a term to itself, or from nil
+-- an empty segment or tree: from a term to itself, or from nil; of a doubly linked one the last cell is what
+-- stands before it
 abbrev pub is_nothing : Atom → Bool
 is_nothing (Points t fields) = false
 is_nothing (Ls t u) = same_term t u
 is_nothing (Tree t) = same_term t Nil
+is_nothing (Dll v p l u) = same_term v u && same_term p l
 
 -- the ends of a segment or a tree: its root, and where it ends
 abbrev pub ends : Atom → Option (Term × Term)
 ends (Points t fields) = None
 ends (Ls t u) = Some (t, u)
 ends (Tree t) = Some (t, Nil)
+ends (Dll v p l u) = Some (v, u)
 
 -- the term is no cell of atom a: it is a constant, or a cell of another atom
 abbrev pub is_elsewhere : State → (a : ℕ) → Term → Bool
 is_elsewhere s a t = is_constant t || allocated s t (Some a)
+
+-- two terms of a doubly linked segment: where it ends where it begins, its last cell is what stands before it;
+-- else, where its root is elsewhere, its ends are the same
+abbrev pub forced_double : (elsewhere : Bool) → (v p l u : Term) → Option (Term × Term)
+forced_double elsewhere v p l u =
+    cond (same_term v u) (cond (same_term p l) None (Some (p, l))) (cond elsewhere (Some (v, u)) None)
 
 -- two terms that aren't one yet, but are the same since the atom can only be empty: where its root
 -- is elsewhere, its ends are the same
@@ -32,6 +41,7 @@ abbrev pub forced_by : (elsewhere : Bool) → Atom → Option (Term × Term)
 forced_by elsewhere (Points t fields) = None
 forced_by elsewhere (Ls t u) = cond (not (same_term t u) && elsewhere) (Some (t, u)) None
 forced_by elsewhere (Tree t) = cond (not (same_term t Nil) && elsewhere) (Some (t, Nil)) None
+forced_by elsewhere (Dll v p l u) = forced_double elsewhere v p l u
 
 -- such terms of the atom of that number
 abbrev pub forced_pair : State → (a : ℕ) → Atom → Option (Term × Term)

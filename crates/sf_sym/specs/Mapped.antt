@@ -5,7 +5,7 @@ use Rattle.sf_core.specs.declared.assertion.Operand.{Operand}
 use Rattle.sf_core.specs.declared.assertion.Operand.TheVariants.{Known, Exists}
 use Rattle.sf_core.specs.declared.assertion.Test.{Test}
 use Rattle.sf_core.specs.declared.assertion.Test.TheVariants.{True, Equal, Differ}
-use Rattle.sf_core.specs.Program.Syntax.{Conjunct, holds, points, segment, tree, choose, Level, level, Conjuncts, none, also}
+use Rattle.sf_core.specs.Program.Syntax.{Conjunct, holds, points, segment, doubly, tree, choose, Level, level, Conjuncts, none, also}
 
 -- an operand
 abbrev pub operand_with : {E F : Type 0} → (E → F) → Operand E → Operand F
@@ -33,6 +33,8 @@ abbrev mutual
   conjunct_with to (holds p x) = holds p (test_with to x)
   conjunct_with to (points p x fs) = points p (operand_with to x) (map (λ f. (f.0, operand_with to f.1)) fs)
   conjunct_with to (segment p f x y) = segment p f (operand_with to x) (operand_with to y)
+  conjunct_with to (doubly p f g x b l y) =
+      doubly p f g (operand_with to x) (operand_with to b) (operand_with to l) (operand_with to y)
   conjunct_with to (tree p l r x) = tree p l r (operand_with to x)
   conjunct_with to (choose p x this that) =
       choose p (test_with to x) (level_with to this) (level_with to that)

@@ -15,7 +15,7 @@ use Rattle.sf_core.specs.declared.command.Expr.{Expr}
 use Rattle.sf_core.specs.declared.command.Expr.TheVariants.{Var as Variable, Nil as ENil, Int as EInt}
 use Rattle.sf_core.specs.Program.Syntax.{Command, assign, look_up, mutate, new, dispose, if, while, call, fork, with}
 use Rattle.sf_sym.specs.declared.atom.Atom.{Atom}
-use Rattle.sf_sym.specs.declared.atom.Atom.TheVariants.{Points, Ls, Tree}
+use Rattle.sf_sym.specs.declared.atom.Atom.TheVariants.{Points, Ls, Tree, Dll}
 use Rattle.sf_sym.specs.declared.term.Term.{Term}
 use Rattle.sf_sym.specs.Fields.{AreOrdered}
 
@@ -70,3 +70,4 @@ abbrev pub HasOrder : Atom → Type 0
 HasOrder (Points root fields) = AreOrdered fields
 HasOrder (Ls u v) = Unit {0}
 HasOrder (Tree u) = Unit {0}
+HasOrder (Dll v p l u) = Unit {0}

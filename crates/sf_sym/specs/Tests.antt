@@ -6,7 +6,7 @@ use Rattle.std.specs.Prelude.{ℕ, ◌==◌, Bool, true, false, ◌&&◌, ◌||�
 use Rattle.std.specs.List.{list_any}
 use Rattle.std.specs.Ordering.{int_eq}
 use Rattle.sf_sym.specs.declared.atom.Atom.{Atom}
-use Rattle.sf_sym.specs.declared.atom.Atom.TheVariants.{Points, Ls, Tree}
+use Rattle.sf_sym.specs.declared.atom.Atom.TheVariants.{Points, Ls, Tree, Dll}
 use Rattle.sf_sym.specs.declared.atom.Numbered.{Numbered}
 use Rattle.sf_sym.specs.State.{State}
 use Rattle.sf_sym.specs.declared.term.Term.{Term}
@@ -39,17 +39,19 @@ abbrev pub differs_at_once : List (Term × Term) → Term → Term → Bool
 differs_at_once apart t u =
     is_constant t && is_constant u && not (same_term t u) || list_any (is_pair t u) apart
 
--- the terms at which an atom begins
+-- the terms at which an atom begins; a doubly linked segment begins at its first and at its last cell
 abbrev pub roots : Atom → List Term
 roots (Points t fields) = t ∷ []
 roots (Ls t u) = t ∷ []
 roots (Tree t) = t ∷ []
+roots (Dll v p l u) = v ∷ l ∷ []
 
 -- the first of them
 abbrev pub root : Atom → Term
 root (Points t fields) = t
 root (Ls t u) = t
 root (Tree t) = t
+root (Dll v p l u) = v
 
 -- an atom begins at the term
 abbrev pub begins : Term → Atom → Bool
@@ -60,6 +62,7 @@ abbrev pub has_cell : List (Term × Term) → Atom → Bool
 has_cell apart (Points t fields) = true
 has_cell apart (Ls t u) = differs_at_once apart t u
 has_cell apart (Tree t) = differs_at_once apart t Nil
+has_cell apart (Dll v p l u) = differs_at_once apart v u
 
 -- an atom allocates a term: it has a cell there
 abbrev pub allocates : List (Term × Term) → Term → Atom → Bool
@@ -101,6 +104,7 @@ is_integer_tree (Ls t u) = false
 is_integer_tree (Tree Nil) = false
 is_integer_tree (Tree (Int i)) = true
 is_integer_tree (Tree (Sym n)) = false
+is_integer_tree (Dll v p l u) = false
 
 -- no heap has the atom
 abbrev pub is_impossible : List (Term × Term) → Atom → Bool

@@ -61,6 +61,7 @@ pub(crate) fn above_atom(least: u64, atom: &Atom) -> u64
         Atom::Points(t, fields) => above_known(above_term(least, *t), fields.as_slice()),
         Atom::Ls(t, u) => above_terms(least, *t, *u),
         Atom::Tree(t) => above_term(least, *t),
+        Atom::Dll(v, p, l, u) => above_terms(above_terms(least, *v, *p), *l, *u),
     }
 }
 
@@ -108,6 +109,24 @@ fn above_both(least: u64, x: &Operand<Term>, y: &Operand<Term>) -> u64
 {
     let above = above_operand(least, x);
     above_operand(above, y)
+}
+
+/// The same of four operands.
+fn above_four(
+    least: u64,
+    x: &Operand<Term>,
+    b: &Operand<Term>,
+    l: &Operand<Term>,
+    y: &Operand<Term>,
+) -> u64
+    ensures least { least ≤ result }
+    ensures first { OccurBelow result (λ z. z ≡ x.now) }
+    ensures second { OccurBelow result (λ z. z ≡ b.now) }
+    ensures third { OccurBelow result (λ z. z ≡ l.now) }
+    ensures fourth { OccurBelow result (λ z. z ≡ y.now) }
+{
+    let above = above_both(least, x, b);
+    above_both(above, l, y)
 }
 
 /// The same of a test.
@@ -159,6 +178,9 @@ pub(crate) fn above_conjunct(least: u64, c: &Conjunct<Term>) -> u64
         Conjunct::Holds(_, test) => above_test(least, test),
         Conjunct::Points(_, root, fields) => above_fields(above_operand(least, root), fields),
         Conjunct::Segment(_, _, from, to) => above_both(least, from, to),
+        Conjunct::Doubly(_, _, _, from, before, last, to) => {
+            above_four(least, from, before, last, to)
+        }
         Conjunct::Tree(_, _, _, root) => above_operand(least, root),
         Conjunct::If(_, test, this, that) => {
             let above = above_test(least, test);

@@ -17,6 +17,9 @@ pub enum Atom {
     Ls(Term, Term),
     /// A tree from that term, its root.
     Tree(Term),
+    /// A doubly linked segment from the first term, its root, up to the fourth: before its first cell
+    /// stands the second, and its last cell is at the third.
+    Dll(Term, Term, Term, Term),
 }
 
 /// An atom and the number by which tags name it.
@@ -39,6 +42,12 @@ pub enum Kind {
     SegmentTo(Term),
     /// A tree there.
     Tree,
+    /// A doubly linked segment from there.
+    Double,
+    /// A doubly linked segment of which the last cell is there.
+    DoubleLast,
+    /// A doubly linked segment from there: what stands before it, its last cell, and where it ends.
+    DoubleTo(Term, Term, Term),
 }
 
 impl Atom {
@@ -47,7 +56,7 @@ impl Atom {
         ensures { result ≡ root self.now }
     {
         match self {
-            Atom::Points(t, _) | Atom::Ls(t, _) | Atom::Tree(t) => *t,
+            Atom::Points(t, _) | Atom::Ls(t, _) | Atom::Tree(t) | Atom::Dll(t, ..) => *t,
         }
     }
 
@@ -57,6 +66,7 @@ impl Atom {
     {
         match self {
             Atom::Points(r, _) | Atom::Ls(r, _) | Atom::Tree(r) => r.is(t),
+            Atom::Dll(v, _, l, _) => v.is(t) || l.is(t),
         }
     }
 
@@ -66,7 +76,7 @@ impl Atom {
     {
         match self {
             Atom::Points(root, fields) if root.is(t) => Some(fields.as_slice()),
-            Atom::Points(..) | Atom::Ls(..) | Atom::Tree(_) => None,
+            Atom::Points(..) | Atom::Ls(..) | Atom::Tree(_) | Atom::Dll(..) => None,
         }
     }
 
@@ -76,9 +86,10 @@ impl Atom {
     {
         match self {
             Atom::Points(root, fields) if root.is(t) => Ok(Some(fields.copy()?)),
-            Atom::Points(..) | Atom::Ls(..) | Atom::Tree(_) => Ok(None),
+            Atom::Points(..) | Atom::Ls(..) | Atom::Tree(_) | Atom::Dll(..) => Ok(None),
         }
     }
+
     /// The same atom. An `Err` means out of memory.
     pub fn copy(&self) -> Result<Atom, AllocError>
         ensures { IfOk result (λ atom. atom ≡ self.now) }
@@ -87,6 +98,7 @@ impl Atom {
             Atom::Points(t, fields) => Ok(Atom::Points(*t, fields.copy()?)),
             Atom::Ls(t, u) => Ok(Atom::Ls(*t, *u)),
             Atom::Tree(t) => Ok(Atom::Tree(*t)),
+            Atom::Dll(v, p, l, u) => Ok(Atom::Dll(*v, *p, *l, *u)),
         }
     }
 }

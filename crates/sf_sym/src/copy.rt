@@ -84,6 +84,9 @@ fn copy_conjunct(alloc: Global, c: &Conjunct<Term>) -> Result<Conjunct<Term>, Al
         Conjunct::Segment(place, next, from, to) => {
             Ok(Conjunct::Segment(*place, *next, *from, *to))
         }
+        Conjunct::Doubly(place, next, back, from, before, last, to) => Ok(Conjunct::Doubly(
+            *place, *next, *back, *from, *before, *last, *to,
+        )),
         Conjunct::Tree(place, left, right, root) => {
             Ok(Conjunct::Tree(*place, *left, *right, *root))
         }

@@ -4,14 +4,15 @@ ghost use Rattle.std.specs.Prelude.{◌≡◌, is_some};
 ghost use Rattle.std.specs.Option.{option_and_then, option_map};
 ghost use Rattle.sf_sym.specs.Cells.{atom_at};
 ghost use Rattle.sf_sym.specs.Kinds.{is_kind};
-ghost use Rattle.sf_sym.specs.Known.{IsLowest, ends, first_forced, first_nothing, forced_by, forced_pair, is_elsewhere, is_nothing};
+ghost use Rattle.sf_sym.specs.Known.{IsLowest, ends, first_forced, first_nothing, forced_by, forced_double, forced_pair, is_elsewhere, is_nothing};
 
 use crate::atom::{Atom, Kind};
 use crate::state::State;
 use crate::term::Term;
 
 impl Atom {
-    /// Whether it is an empty segment or tree: from a term to itself, or from nil.
+    /// Whether it is an empty segment or tree: from a term to itself, or from nil; the last cell of a
+    /// doubly linked one is what stands before it.
     pub fn is_nothing(&self) -> bool
         ensures { result ≡ is_nothing self.now }
     {
@@ -19,6 +20,7 @@ impl Atom {
             Atom::Points(..) => false,
             Atom::Ls(t, u) => t.is(*u),
             Atom::Tree(t) => t.is(Term::Nil),
+            Atom::Dll(v, p, l, u) => v.is(*u) && p.is(*l),
         }
     }
 
@@ -30,6 +32,7 @@ impl Atom {
             Atom::Points(..) => None,
             Atom::Ls(t, u) => Some((*t, *u)),
             Atom::Tree(t) => Some((*t, Term::Nil)),
+            Atom::Dll(v, _, _, u) => Some((*v, *u)),
         }
     }
 
@@ -41,8 +44,30 @@ impl Atom {
         match self {
             Atom::Ls(t, u) if !t.is(*u) && elsewhere => Some((*t, *u)),
             Atom::Tree(t) if !t.is(Term::Nil) && elsewhere => Some((*t, Term::Nil)),
+            Atom::Dll(v, p, l, u) => forced_double(elsewhere, *v, *p, *l, *u),
             Atom::Points(..) | Atom::Ls(..) | Atom::Tree(_) => None,
         }
+    }
+}
+
+/// Two terms of a doubly linked segment that are the same since it can only be empty, and aren't one
+/// term yet: where it ends where it begins, what stands before it and its last cell; else its ends, if
+/// its root is elsewhere.
+pub(crate) fn forced_double(
+    elsewhere: bool,
+    v: Term,
+    p: Term,
+    l: Term,
+    u: Term,
+) -> Option<(Term, Term)>
+    ensures { result ≡ forced_double elsewhere v p l u }
+{
+    if v.is(u) {
+        if p.is(l) { None } else { Some((p, l)) }
+    } else if elsewhere {
+        Some((v, u))
+    } else {
+        None
     }
 }
 

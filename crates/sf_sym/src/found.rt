@@ -149,6 +149,9 @@ impl Store {
             Outline::Cell(r) | Outline::Segment(r, _) | Outline::Tree(r) => {
                 self.is_closed(row.number, r)
             }
+            Outline::Double(v, _, l, _) => {
+                self.is_closed(row.number, v) || self.is_closed(row.number, l)
+            }
         }
     }
 
@@ -167,7 +170,9 @@ impl Store {
         requires { Kept self.now }
         ensures { result ≡ is_forced self.now.apart (all_rows self.now) row.now }
     {
-        row.outline.forced_by(true).is_some() && self.is_closed(row.number, row.outline.root())
+        row.outline.forced_by(false).is_some()
+            || row.outline.forced_by(true).is_some()
+                && self.is_closed(row.number, row.outline.root())
     }
 
     /// Whether the part is such a one.

@@ -1,9 +1,9 @@
 //! What a state keeps beside its atoms: their rows by terms, and marks of those that are still to be
 //! tested.
 
-ghost use Rattle.std.specs.Prelude.{◌≡◌, ◌⊎◌, ◌∷◌, [], true, false, OnErr, OnOk};
+ghost use Rattle.std.specs.Prelude.{◌≡◌, ◌⊎◌, ◌∷◌, [], true, false, Some, IfOk, OnErr, OnOk};
 ghost use Rattle.std.specs.List.{list_any};
-ghost use Rattle.sf_sym.specs.Checked.Keeping.{AreMarksOf, AreAlso, AreMarksAlso, AreMarksWith, Enters, EntersOf, Forgets, GetsReady, GetsReadyFor, Has, HasMark, In, IsCovered, IsThere, IsUndone, Leaves, RemainsIndexed, RemainsWithout, StillMarked, gets_cell, joins, row_begins};
+ghost use Rattle.sf_sym.specs.Checked.Keeping.{AreMarksOf, AreAlso, AreMarksAlso, AreMarksWith, Enters, EntersOf, Forgets, GetsReady, GetsReadyFor, Has, HasMark, In, IsCovered, IsMarkedBeside, IsThere, IsUndone, Leaves, RemainsIndexed, RemainsWithout, StillMarked, gets_cell, joins, other_root, row_begins};
 ghost use Rattle.sf_sym.specs.Checked.Rows.{bare, is_marked, rows_at, same_row};
 ghost use Rattle.sf_sym.specs.Equalities.{numbered_with, put_for};
 ghost use Rattle.sf_sym.specs.Tests.{has_cell, root};
@@ -17,6 +17,7 @@ use crate::pairs::Pairs;
 use crate::replace::Replacement;
 use crate::rows::Rows;
 use crate::term::Term;
+use indexmap::IndexSet;
 use std::alloc::{AllocError, Global};
 
 /// The indices and marks of a state.
@@ -99,21 +100,48 @@ fn mark(marks: &mut Marks, roots: &Rows, row: Row, is_cell: bool) -> Result<(), 
     ensures still { StillMarked marks.old marks.new }
     ensures row { OnOk result (HasMark marks.new row) }
     ensures only { OnOk result ((r : RowOf) → HasMark marks.new r
-        → (HasMark marks.old r ⊎ In r (rows_at roots.now (root (bare row.outline)))) ⊎ (r ≡ row)) }
-    ensures beside { OnOk result (is_cell ≡ true → (r : RowOf)
-        → In r (rows_at roots.now (root (bare row.outline))) → HasMark marks.new r) }
-    ensures err { OnErr result
-        (AreMarksWith (rows_at roots.now (root (bare row.outline))) marks.old marks.new) }
+        → (HasMark marks.old r ⊎ ((t : TermOf) × In r (rows_at roots.now t))) ⊎ (r ≡ row)) }
+    ensures beside { OnOk result (is_cell ≡ true → (t : TermOf) → row_begins t row ≡ true
+        → (r : RowOf) → In r (rows_at roots.now t) → HasMark marks.new r) }
+    ensures err { OnErr result (AreMarksAlso roots.now marks.old marks.new) }
 {
     if is_cell {
-        marks.add_all(roots.at(row.outline.root()))?;
+        mark_roots(marks, roots, row)?;
     }
     marks.add(row)?;
     Ok(())
 }
 
+/// Marks all that begin where a part does. An `Err` means out of memory, and then some of these may be
+/// marked.
+fn mark_roots(marks: &mut Marks, roots: &Rows, row: Row) -> Result<(), AllocError>
+    ensures still { StillMarked marks.old marks.new }
+    ensures only { AreMarksAlso roots.now marks.old marks.new }
+    ensures ok { OnOk result ((t : TermOf) → row_begins t row ≡ true
+        → (r : RowOf) → In r (rows_at roots.now t) → HasMark marks.new r) }
+{
+    let first = row.outline.root();
+    marks.add_all(roots.at(first))?;
+    mark_beside(marks, roots, row, first)?;
+    Ok(())
+}
+
+/// Marks all that begin at the other term at which a part does, if there is one. An `Err` means out of
+/// memory, and then some of these may be marked.
+fn mark_beside(marks: &mut Marks, roots: &Rows, row: Row, at: Term) -> Result<(), AllocError>
+    ensures still { StillMarked marks.old marks.new }
+    ensures only { AreMarksAlso roots.now marks.old marks.new }
+    ensures ok { OnOk result (IsMarkedBeside roots.now at row marks.new) }
+{
+    let Some(other) = row.outline.other_root(at) else {
+        return Ok(());
+    };
+    marks.add_all(roots.at(other))?;
+    Ok(())
+}
+
 /// Puts a new row into the index of roots, and where it has a cell into that of cells. An `Err` means
-/// out of memory, and then both have the rows that they had.
+/// out of memory, and then both have the rows of other numbers that they had.
 pub(crate) fn enter(
     roots: &mut Rows,
     cells: &mut Rows,
@@ -124,12 +152,16 @@ pub(crate) fn enter(
     ensures cells { OnOk result (is_cell ≡ true → Enters row cells.old cells.new) }
     ensures without { OnOk result (is_cell ≡ false → cells.new ≡ cells.old) }
     ensures err { OnErr result (IsUndone row.number roots.old roots.new
-        × ((t : TermOf) → rows_at cells.new t ≡ rows_at cells.old t)) }
+        × IsUndone row.number cells.old cells.new) }
 {
-    roots.enter(row)?;
+    if let Err(e) = roots.enter(row) {
+        roots.leave(row);
+        return Err(e);
+    }
     if is_cell {
         if let Err(e) = cells.enter(row) {
             roots.leave(row);
+            cells.leave(row);
             return Err(e);
         }
     }
@@ -177,7 +209,63 @@ fn cover_at(
         return Ok(());
     }
     marks.add_all(rows)?;
+    mark_others(marks, roots, rows, at)?;
     enter_new(cells, rows, apart, pair)
+}
+
+/// Marks all that begin at the other term at which one of the rows does: those of each term once. An
+/// `Err` means out of memory, and then some of these may be marked.
+fn mark_others(marks: &mut Marks, roots: &Rows, rows: &[Row], at: Term) -> Result<(), AllocError>
+    ensures still { StillMarked marks.old marks.new }
+    ensures only { AreMarksAlso roots.now marks.old marks.new }
+    ensures ok { OnOk result ((c : RowOf) → In c rows.now → IsMarkedBeside roots.now at c marks.new) }
+{
+    let others = others_of(marks.allocator(), rows, at)?;
+    mark_all_at(marks, roots, others.as_slice())
+}
+
+/// The other terms at which the parts of these rows begin, each once. An `Err` means out of memory.
+fn others_of(alloc: Global, rows: &[Row], at: Term) -> Result<IndexSet<Term>, AllocError>
+    ensures { IfOk result (λ others. (c : RowOf) (t : TermOf) → In c rows.now
+        → other_root at (bare c.outline) ≡ Some t → In t others.keys) }
+{
+    let mut others = IndexSet::new(alloc);
+    let mut left = rows;
+    while let Some((row, rest)) = left.split_first() {
+        note_other(&mut others, *row, at)?;
+        left = rest;
+    }
+    Ok(others)
+}
+
+/// Notes the other term at which a part begins, if there is one. An `Err` means out of memory, and
+/// then it isn't there.
+fn note_other(others: &mut IndexSet<Term>, row: Row, at: Term) -> Result<(), AllocError>
+    ensures still { (t : TermOf) → In t others.old.keys → In t others.new.keys }
+    ensures ok { OnOk result ((t : TermOf) → other_root at (bare row.outline) ≡ Some t
+        → In t others.new.keys) }
+{
+    let Some(other) = row.outline.other_root(at) else {
+        return Ok(());
+    };
+    others.insert(other)?;
+    Ok(())
+}
+
+/// Marks all that begin at these terms. An `Err` means out of memory, and then some of these may be
+/// marked.
+fn mark_all_at(marks: &mut Marks, roots: &Rows, terms: &[Term]) -> Result<(), AllocError>
+    ensures still { StillMarked marks.old marks.new }
+    ensures only { AreMarksAlso roots.now marks.old marks.new }
+    ensures ok { OnOk result ((t : TermOf) → In t terms.now → (r : RowOf) → In r (rows_at roots.now t)
+        → HasMark marks.new r) }
+{
+    let mut left = terms;
+    while let Some((term, rest)) = left.split_first() {
+        marks.add_all(roots.at(*term))?;
+        left = rest;
+    }
+    Ok(())
 }
 
 /// Whether one of the rows is of a part that gets a cell once the two terms differ.

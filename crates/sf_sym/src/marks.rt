@@ -36,6 +36,11 @@ impl Marks {
         }
     }
 
+    /// What they are allocated by.
+    pub(crate) fn allocator(&self) -> Global {
+        *self.rows.allocator()
+    }
+
     /// The rows.
     pub(crate) fn as_slice(&self) -> &[Row]
         ensures { result.now ≡ self.now }
@@ -69,16 +74,11 @@ impl Marks {
     }
 
     /// The same marks. An `Err` means out of memory.
-    pub(crate) fn copy(&self, alloc: Global) -> Result<Marks, AllocError>
+    pub(crate) fn copy(&self) -> Result<Marks, AllocError>
         ensures { IfOk result (λ marks. AreSameMarks self.now marks) }
     {
-        let mut marks = Marks::new(alloc);
-        let mut left = self.as_slice();
-        while let Some((row, rest)) = left.split_first() {
-            marks.add(*row)?;
-            left = rest;
-        }
-        Ok(marks)
+        let rows = self.rows.clone()?;
+        Ok(Marks { rows })
     }
 
     /// The row needn't be tested any more.

@@ -1,12 +1,13 @@
-ghost use Rattle.std.specs.Prelude.{◌≡◌};
+ghost use Rattle.std.specs.Prelude.{◌≡◌, ◌&&◌, cond, None, Some};
 ghost use Rattle.sf_sym.specs.Checked.Rows.{bare, outline};
-ghost use Rattle.sf_sym.specs.Checked.Keeping.{joins};
+ghost use Rattle.sf_sym.specs.Checked.Keeping.{joins, other_root};
 ghost use Rattle.sf_sym.specs.Equalities.{atom_with, put_for};
-ghost use Rattle.sf_sym.specs.Tests.{begins, is_integer_tree, is_pair, root};
+ghost use Rattle.sf_sym.specs.Tests.{begins, is_integer_tree, is_pair, root, same_term};
 ghost use Rattle.sf_sym.specs.Kinds.{is_kind};
 ghost use Rattle.sf_sym.specs.Known.{forced_by, is_nothing};
 
 use crate::atom::{Atom, Kind};
+use crate::empty::forced_double;
 use crate::replace::Replacement;
 use crate::term::Term;
 
@@ -19,6 +20,9 @@ pub(crate) enum Outline {
     Segment(Term, Term),
     /// A tree from that term.
     Tree(Term),
+    /// A doubly linked segment from the first term up to the fourth, with the second before its first
+    /// cell and its last cell at the third.
+    Double(Term, Term, Term, Term),
 }
 
 /// An outline with the number of its atom.
@@ -45,15 +49,27 @@ impl Outline {
             Atom::Points(t, _) => Outline::Cell(*t),
             Atom::Ls(t, u) => Outline::Segment(*t, *u),
             Atom::Tree(t) => Outline::Tree(*t),
+            Atom::Dll(v, p, l, u) => Outline::Double(*v, *p, *l, *u),
         }
     }
 
-    /// The term at which it begins.
+    /// The first term at which it begins.
     pub(crate) fn root(&self) -> Term
         ensures { result ≡ root (bare self.now) }
     {
         match self {
             Outline::Cell(t) | Outline::Segment(t, _) | Outline::Tree(t) => *t,
+            Outline::Double(v, ..) => *v,
+        }
+    }
+
+    /// Where it begins at that term, the other term at which it begins, if there is one.
+    pub(crate) fn other_root(&self, t: Term) -> Option<Term>
+        ensures { result ≡ other_root t (bare self.now) }
+    {
+        match self {
+            Outline::Cell(_) | Outline::Segment(..) | Outline::Tree(_) => None,
+            Outline::Double(v, _, l, _) => other(*v, *l, t),
         }
     }
 
@@ -63,6 +79,7 @@ impl Outline {
     {
         match self {
             Outline::Cell(r) | Outline::Segment(r, _) | Outline::Tree(r) => r.is(t),
+            Outline::Double(v, _, l, _) => v.is(t) || l.is(t),
         }
     }
 
@@ -73,7 +90,8 @@ impl Outline {
         matches!(self, Outline::Tree(Term::Int(_)))
     }
 
-    /// Whether it is an empty segment or tree: from a term to itself, or from nil.
+    /// Whether it is an empty segment or tree: from a term to itself, or from nil; the last cell of a
+    /// doubly linked one is what stands before it.
     pub(crate) fn is_nothing(&self) -> bool
         ensures { result ≡ is_nothing (bare self.now) }
     {
@@ -81,6 +99,7 @@ impl Outline {
             Outline::Cell(_) => false,
             Outline::Segment(t, u) => t.is(*u),
             Outline::Tree(t) => t.is(Term::Nil),
+            Outline::Double(v, p, l, u) => v.is(*u) && p.is(*l),
         }
     }
 
@@ -91,8 +110,13 @@ impl Outline {
         match (self, kind) {
             (Outline::Cell(r), Kind::Cell)
             | (Outline::Segment(r, _), Kind::Segment)
-            | (Outline::Tree(r), Kind::Tree) => r.is(t),
+            | (Outline::Tree(r), Kind::Tree)
+            | (Outline::Double(r, ..), Kind::Double)
+            | (Outline::Double(_, _, r, _), Kind::DoubleLast) => r.is(t),
             (Outline::Segment(r, end), Kind::SegmentTo(u)) => r.is(t) && end.is(u),
+            (Outline::Double(v, p, l, u), Kind::DoubleTo(q, m, w)) => {
+                v.is(t) && (p.is(q) && (l.is(m) && u.is(w)))
+            }
             _ => false,
         }
     }
@@ -105,6 +129,7 @@ impl Outline {
         match self {
             Outline::Segment(t, u) if !t.is(*u) && elsewhere => Some((*t, *u)),
             Outline::Tree(t) if !t.is(Term::Nil) && elsewhere => Some((*t, Term::Nil)),
+            Outline::Double(v, p, l, u) => forced_double(elsewhere, *v, *p, *l, *u),
             Outline::Cell(_) | Outline::Segment(..) | Outline::Tree(_) => None,
         }
     }
@@ -115,7 +140,7 @@ impl Outline {
     {
         match self {
             Outline::Cell(_) => false,
-            Outline::Segment(a, b) => are_pair(t, u, *a, *b),
+            Outline::Segment(a, b) | Outline::Double(a, _, _, b) => are_pair(t, u, *a, *b),
             Outline::Tree(a) => are_pair(t, u, *a, Term::Nil),
         }
     }
@@ -128,7 +153,23 @@ impl Outline {
             Outline::Cell(t) => Outline::Cell(r.term(*t)),
             Outline::Segment(t, u) => Outline::Segment(r.term(*t), r.term(*u)),
             Outline::Tree(t) => Outline::Tree(r.term(*t)),
+            Outline::Double(v, p, l, u) => {
+                Outline::Double(r.term(*v), r.term(*p), r.term(*l), r.term(*u))
+            }
         }
+    }
+}
+
+/// Of two terms the one that isn't the third, where they are two and the third is one of them.
+fn other(v: Term, l: Term, t: Term) -> Option<Term>
+    ensures { result ≡ cond (same_term v l) None (Some (cond (same_term v t) l v)) }
+{
+    if v.is(l) {
+        None
+    } else if v.is(t) {
+        Some(l)
+    } else {
+        Some(v)
     }
 }
 

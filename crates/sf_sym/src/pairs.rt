@@ -1,10 +1,11 @@
-//! The pairs of terms that differ: in the order in which they came, and as a set.
+//! The pairs of terms that differ: in the order in which they came, and beyond a few as a set too.
 
-ghost use Rattle.std.specs.Prelude.{◌≡◌, ◌||◌, ◌++◌, ◌∷◌, [], map, OnErr, OnOk, IfOk};
+ghost use Rattle.std.specs.Prelude.{◌≡◌, ◌||◌, ◌++◌, ◌∷◌, [], map, IfOk, IfSome, OnErr, OnOk};
 ghost use Rattle.std.specs.List.{list_any};
 ghost use Rattle.sf_sym.specs.Equalities.{put_for};
 ghost use Rattle.sf_sym.specs.Tests.{differs_at_once, has_cell, is_pair, same_term};
 ghost use Rattle.sf_sym.specs.Checked.Rows.{bare};
+ghost use Rattle.sf_sym.specs.Checked.Sets.{AreSame};
 
 use crate::outline::Outline;
 use crate::replace::Replacement;
@@ -13,11 +14,15 @@ use indexmap::IndexSet;
 use std::alloc::{AllocError, Global};
 use std::marker::Model;
 
+/// Up to so many pairs are looked through one by one: that is as fast as a look-up, and the list
+/// alone is copied at once.
+const FEW: usize = 16;
+
 /// Pairs of terms that differ. Contracts see them in the order in which they came.
 pub(crate) struct Pairs {
     list: Vec<(Term, Term)>,
-    /// The same pairs, each once.
-    set: IndexSet<(Term, Term)>,
+    /// The same pairs, each once, where there are more than a few.
+    set: Option<IndexSet<(Term, Term)>>,
     /// Whether one of them is of one term.
     reflexive: bool,
 }
@@ -34,7 +39,7 @@ impl Drop for Pairs {
 }
 
 impl Model for Pairs {
-    ghost use Rattle.std.specs.Prelude.{◌≡◌, List};
+    ghost use Rattle.std.specs.Prelude.{◌≡◌, IfSome, List};
     ghost use Rattle.std.specs.List.{list_any};
     ghost use Rattle.sf_sym.specs.declared.term.Term.{Term};
 
@@ -43,7 +48,7 @@ impl Model for Pairs {
     ghost use Rattle.sf_sym.specs.Tests.{same_term};
     ghost use Rattle.sf_sym.specs.Checked.Sets.{AreSame};
 
-    ghost invariant = { λ s. AreSame s.list.items s.set.keys
+    ghost invariant = { λ s. IfSome s.set (λ set. AreSame s.list.items set.keys)
         × (s.reflexive ≡ list_any (λ p. same_term p.0 p.1) s.list.items) };
 
     ghost view = { λ s. s.list.items };
@@ -56,7 +61,7 @@ impl Pairs {
     {
         Pairs {
             list: Vec::new(alloc),
-            set: IndexSet::new(alloc),
+            set: None,
             reflexive: false,
         }
     }
@@ -72,7 +77,10 @@ impl Pairs {
     fn lists(&self, t: Term, u: Term) -> bool
         ensures { result ≡ list_any (is_pair t u) self.now }
     {
-        self.set.contains(&(t, u)) || self.set.contains(&(u, t))
+        match &self.set {
+            Some(set) => set.contains(&(t, u)) || set.contains(&(u, t)),
+            None => is_among(self.list.as_slice(), t, u),
+        }
     }
 
     /// Whether two terms differ at once: different constants, or one of the pairs.
@@ -90,6 +98,7 @@ impl Pairs {
             Outline::Cell(_) => true,
             Outline::Segment(t, u) => self.differ(*t, *u),
             Outline::Tree(t) => self.differ(*t, Term::Nil),
+            Outline::Double(v, _, _, u) => self.differ(*v, *u),
         }
     }
 
@@ -106,7 +115,8 @@ impl Pairs {
         ensures err { OnErr result (self.new ≡ self.old) }
     {
         self.list.reserve(1)?;
-        self.set.insert((t, u))?;
+        let alloc = *self.list.allocator();
+        note(alloc, &mut self.set, self.list.as_slice(), (t, u))?;
         self.list.push_reserved((t, u));
         self.reflexive = self.reflexive || t.is(u);
         Ok(())
@@ -118,6 +128,7 @@ impl Pairs {
             ≡ map (λ p. (put_for r.symbol r.by p.0, put_for r.symbol r.by p.1)) self.now) }
     {
         let mut pairs = Pairs::new(alloc);
+        pairs.list.reserve(self.list.len())?;
         let mut left = self.as_slice();
         while let Some((p, rest)) = left.split_first() {
             pairs.push(r.term(p.0), r.term(p.1))?;
@@ -130,12 +141,75 @@ impl Pairs {
     pub(crate) fn copy(&self, alloc: Global) -> Result<Pairs, AllocError>
         ensures { IfOk result (λ pairs. pairs ≡ self.now) }
     {
-        let mut pairs = Pairs::new(alloc);
-        let mut left = self.as_slice();
-        while let Some((p, rest)) = left.split_first() {
-            pairs.push(p.0, p.1)?;
-            left = rest;
+        let list = Vec::from_slice(alloc, self.list.as_slice())?;
+        let set = copied(self.list.as_slice(), &self.set)?;
+        Ok(Pairs {
+            list,
+            set,
+            reflexive: self.reflexive,
+        })
+    }
+}
+
+/// Whether one of the pairs is of these terms.
+fn is_among(pairs: &[(Term, Term)], t: Term, u: Term) -> bool
+    ensures { result ≡ list_any (is_pair t u) pairs.now }
+{
+    pairs
+        .iter()
+        .any(|p| p.0.is(t) && p.1.is(u) || p.0.is(u) && p.1.is(t))
+}
+
+/// The pairs of the list and one more, each once. An `Err` means out of memory.
+fn set_of(
+    alloc: Global,
+    list: &[(Term, Term)],
+    pair: (Term, Term),
+) -> Result<IndexSet<(Term, Term)>, AllocError>
+    ensures { IfOk result (λ set. AreSame (list.now ++ pair ∷ []) set.keys) }
+{
+    let mut set = IndexSet::with_capacity(alloc, 2 * list.len())?;
+    let mut left = list;
+    while let Some((p, rest)) = left.split_first() {
+        set.insert(*p)?;
+        left = rest;
+    }
+    set.insert(pair)?;
+    Ok(set)
+}
+
+/// The list is to have one pair more: so has its set, which is made once there are more than a few.
+/// An `Err` means out of memory, and then the set has the pairs that it had.
+fn note(
+    alloc: Global,
+    set: &mut Option<IndexSet<(Term, Term)>>,
+    list: &[(Term, Term)],
+    pair: (Term, Term),
+) -> Result<(), AllocError>
+    requires { IfSome set.old (λ had. AreSame list.now had.keys) }
+    ensures ok { OnOk result (IfSome set.new (λ has. AreSame (list.now ++ pair ∷ []) has.keys)) }
+    ensures err { OnErr result (IfSome set.new (λ has. AreSame list.now has.keys)) }
+{
+    match set {
+        Some(set) => {
+            set.insert(pair)?;
         }
-        Ok(pairs)
+        None if list.len() < FEW => {}
+        None => *set = Some(set_of(alloc, list, pair)?),
+    }
+    Ok(())
+}
+
+/// A copy of the set of a list. An `Err` means out of memory.
+fn copied(
+    list: &[(Term, Term)],
+    set: &Option<IndexSet<(Term, Term)>>,
+) -> Result<Option<IndexSet<(Term, Term)>>, AllocError>
+    requires { IfSome set.now (λ it. AreSame list.now it.keys) }
+    ensures { IfOk result (λ made. IfSome made (λ it. AreSame list.now it.keys)) }
+{
+    match set {
+        Some(set) => Ok(Some(set.clone()?)),
+        None => Ok(None),
     }
 }

@@ -140,6 +140,7 @@ impl Parts {
             Atom::Points(_, fields) => fields.put(f, u)?,
             Atom::Ls(..) => unreachable!(),
             Atom::Tree(_) => unreachable!(),
+            Atom::Dll(..) => unreachable!(),
         }
         Ok(())
     }

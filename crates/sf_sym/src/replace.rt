@@ -76,6 +76,7 @@ impl Replacement {
         match atom {
             Atom::Points(t, _) | Atom::Tree(t) => t.is(s),
             Atom::Ls(t, u) => t.is(s) || u.is(s),
+            Atom::Dll(v, p, l, u) => v.is(s) || p.is(s) || l.is(s) || u.is(s),
         }
     }
 
@@ -131,6 +132,12 @@ impl Replacement {
                 self.in_term(to);
             }
             Atom::Tree(root) => self.in_term(root),
+            Atom::Dll(from, before, last, to) => {
+                self.in_term(from);
+                self.in_term(before);
+                self.in_term(last);
+                self.in_term(to);
+            }
         }
     }
 
@@ -206,6 +213,12 @@ impl Replacement {
             Conjunct::Segment(_, _, from, to) => {
                 self.in_operand(from);
                 self.in_operand(to);
+            }
+            Conjunct::Doubly(_, _, _, first, before, last, end) => {
+                self.in_operand(first);
+                self.in_operand(before);
+                self.in_operand(last);
+                self.in_operand(end);
             }
             Conjunct::Tree(_, _, _, root) => self.in_operand(root),
             Conjunct::If(_, test, this, that) => {

@@ -1,7 +1,7 @@
 //! Rows of atoms by terms, as a map from a term to the set of the rows there.
 
 ghost use Rattle.std.specs.Prelude.{◌≡◌, [], IfOk, OnErr, OnOk};
-ghost use Rattle.sf_sym.specs.Checked.Keeping.{Enters, Leaves};
+ghost use Rattle.sf_sym.specs.Checked.Keeping.{Enters, Leaves, MayEnter};
 ghost use Rattle.sf_sym.specs.Checked.Rows.{IsOut, IsPut, is_marked, rows_at, same_row};
 ghost use Rattle.sf_sym.specs.declared.outline.Row.{Row as RowOf};
 ghost use Rattle.sf_sym.specs.declared.term.Term.{Term as TermOf};
@@ -78,13 +78,18 @@ impl Rows {
         }
     }
 
-    /// One more row at the terms where its atom begins. An `Err` means out of memory, and then the
-    /// same rows are at the same terms.
+    /// One more row at the terms where its atom begins. An `Err` means out of memory, and then it may
+    /// be at some of them.
     pub(crate) fn enter(&mut self, row: Row) -> Result<(), AllocError>
         ensures ok { OnOk result (Enters row self.old self.new) }
-        ensures err { OnErr result ((u : TermOf) → rows_at self.new u ≡ rows_at self.old u) }
+        ensures err { OnErr result (MayEnter row self.old self.new) }
     {
-        self.add(row.outline.root(), row)?;
+        let first = row.outline.root();
+        self.add(first, row)?;
+        let Some(last) = row.outline.other_root(first) else {
+            return Ok(());
+        };
+        self.add(last, row)?;
         Ok(())
     }
 
@@ -92,7 +97,12 @@ impl Rows {
     pub(crate) fn leave(&mut self, row: Row)
         ensures { Leaves row self.old self.new }
     {
-        self.remove(row.outline.root(), row);
+        let first = row.outline.root();
+        self.remove(first, row);
+        let Some(last) = row.outline.other_root(first) else {
+            return;
+        };
+        self.remove(last, row);
     }
 }
 

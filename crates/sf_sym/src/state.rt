@@ -30,7 +30,7 @@ pub struct State {
     links: Links,
     vars: VarTerms,
     next_sym: u32,
-    pub(crate) store: Store,
+    pub(crate) store: Box<Store>,
 }
 
 impl Drop for State {
@@ -51,36 +51,44 @@ impl Model for State {
 
     ghost use Rattle.sf_sym.specs.Checked.Stores.{Kept, heap, state_in};
 
-    ghost invariant = { λ s. Kept s.store };
+    ghost invariant = { λ s. Kept s.store.value };
 
-    ghost view = { λ s. state_in s.links s.vars s.next_sym (heap s.store) };
+    ghost view = { λ s. state_in s.links s.vars s.next_sym (heap s.store.value) };
 }
 
 impl State {
     /// The state that knows these terms of the variables, which have symbols below `next_sym` only,
-    /// and nothing of the heap. The variables are in order, each once.
-    pub fn new(alloc: Global, links: Links, vars: Vec<(Var, Term)>, next_sym: u32) -> State
+    /// and nothing of the heap. The variables are in order, each once. An `Err` means out of
+    /// memory.
+    pub fn new(
+        alloc: Global,
+        links: Links,
+        vars: Vec<(Var, Term)>,
+        next_sym: u32,
+    ) -> Result<State, AllocError>
         requires order { AreInOrder vars.items }
         requires below { AllPaired (IsBelow next_sym) vars.items }
-        ensures { result ≡ first_state links vars.items next_sym }
+        ensures { IfOk result (λ s. s ≡ first_state links vars.items next_sym) }
     {
-        State {
+        let store = Box::new(alloc, Store::new(alloc))?;
+        Ok(State {
             links,
             vars: VarTerms::from_vec(vars),
             next_sym,
-            store: Store::new(alloc),
-        }
+            store,
+        })
     }
 
     /// The same state. An `Err` means out of memory.
     pub fn copy(&self, alloc: Global) -> Result<State, AllocError>
         ensures { IfOk result (λ state. state ≡ self.now) }
     {
+        let store = Box::new(alloc, self.store.copy(alloc)?)?;
         Ok(State {
             links: self.links,
             vars: self.vars.copy(alloc)?,
             next_sym: self.next_sym,
-            store: self.store.copy(alloc)?,
+            store,
         })
     }
 

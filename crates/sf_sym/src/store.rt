@@ -85,7 +85,7 @@ impl Store {
             symbol: 0,
             by: Term::Sym(0),
         };
-        let marks = self.index.marks.copy(alloc)?;
+        let marks = self.index.marks.copy()?;
         let index = made(alloc, &apart, atoms.as_slice(), &taken, same, marks)?;
         Ok(Store {
             apart,

@@ -17,6 +17,8 @@ pub enum Tag {
     Split(Term, Term),
     /// A segment or tree that isn't empty begins with a cell.
     Unroll(u32),
+    /// A doubly linked segment that isn't empty ends with a cell.
+    Back(u32),
     /// A variable gets an expression's value.
     Assign,
     /// A variable gets the value of a field of this cell.

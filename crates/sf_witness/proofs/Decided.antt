@@ -3,7 +3,7 @@
 use Rattle.std.proofs.Common.{◌≡◌, ◌≢◌, ◌⊎◌, ◌↔◌, ◌==◌, ◌++◌, ℕ, Bool, true, false, IsTrue, cond, List, [], ◌∷◌, Contains, Option, Some, None, is_some, get_or, refl, sym, ap, ◌∙◌, subst, inl, inr}
 use Rattle.std.specs.FinMap.{get, keys, len}
 use Rattle.std.specs.Option.{option_map}
-use Rattle.std.specs.Ordering.{int_eq, nat_cmp}
+use Rattle.std.specs.Ordering.{int_eq}
 use Rattle.std.proofs.lemmas.Bool.{cases_eq}
 use Rattle.std.proofs.lemmas.Bool.Decides.{Decides-int_eq}
 use Rattle.std.proofs.lemmas.Option.{none-some, same_Some}
@@ -15,14 +15,15 @@ use Rattle.sf_base.specs.declared.place.Place.{Place}
 use Rattle.sf_base.specs.declared.value.Value.{Value}
 use Rattle.sf_base.specs.declared.value.Value.TheVariants.{Nil as nil, Int as int, Loc as loc}
 use Rattle.sf_base.specs.HeapStore.{Cell, Heap, IsEmpty}
-use Rattle.sf_core.specs.Assertions.Sat.{HasFields, IsTrueOf, SatOne, Seg, Tree, operand, value}
+use Rattle.sf_core.specs.Assertions.Sat.{HasFields, SatOne, operand, value}
 use Rattle.sf_core.specs.declared.assertion.Operand.{Operand}
 use Rattle.sf_core.specs.declared.assertion.Operand.TheVariants.{Known, Exists}
 use Rattle.sf_core.specs.declared.assertion.Test.{Test}
 use Rattle.sf_core.specs.declared.assertion.Test.TheVariants.{True, Equal, Differ}
 use Rattle.sf_core.specs.declared.command.Expr.{Expr}
 use Rattle.sf_core.specs.Assertions.InOrder.{IsNext}
-use Rattle.sf_core.specs.Program.Syntax.{Conjunct, holds, points, segment, tree, choose, Conjuncts, none, also, level}
+use Rattle.sf_core.specs.Program.Syntax.{Conjunct, holds, points, segment, doubly, tree, choose, Conjuncts, none, also, level}
+use Rattle.sf_consume.specs.Subtract.{four}
 use Rattle.sf_foot.specs.Checked.Laws.{FootprintIsDecided, HasFootprintOrNone}
 use Rattle.sf_heap.specs.Cells.{Cells, FieldValues, cell_of, heap_of}
 use Rattle.sf_sym.specs.declared.stuck.Stuck.{Stuck}
@@ -30,21 +31,20 @@ use Rattle.sf_sym.specs.declared.stuck.Stuck.TheVariants.{NoCell, NotEqual, NotD
 use Rattle.sf_sym.specs.declared.term.Term.{Term}
 use Rattle.sf_sym.specs.Decided.{term_of}
 use Rattle.sf_sym.specs.Goal.{Goal, Item, run, add, take, gave, head, again, exit, return, end}
-use Rattle.sf_sym.specs.Holds.{IsBound, term_value}
+use Rattle.sf_sym.specs.Holds.{term_value}
 use Rattle.sf_sym.specs.State.{State}
-use Rattle.sf_sym.specs.Tests.{parts}
-use Rattle.sf_witness.specs.Checked.Meeting.{Agrees, HasCellAs, HasValue, IsAmong, IsCellAs, IsConsistent, IsThereAs, Meets, Met, Refutes, found}
+use Rattle.sf_witness.specs.Checked.Meeting.{HasCellAs, HasValue, IsAmong, IsCellAs, IsConsistent, IsThereAs, Meets, Met, Refutes, found}
 use Rattle.sf_witness.specs.Checked.Shapes.{HasPart, variable}
-use Rattle.sf_witness.specs.Checked.Wishes.{HasSegmentWith, HasTreeWith, IsTrueWith, is_one}
+use Rattle.sf_witness.specs.Checked.Wishes.{HasDoubleOf, HasSegmentWith, HasTreeWith, IsTrueWith, is_one}
 use Rattle.sf_witness.specs.Located.{located, value_at}
-use Rattle.sf_witness.specs.Wanted.{AreEqual, IsIn, IsSatisfied, IsThere, IsTrueEquality, WantHolds, first_of, left_heap, misfit, plain, printed_value, there_value, wanted, wanted_cell, whole_heap}
+use Rattle.sf_witness.specs.Wanted.{IsIn, IsThere, IsTrueEquality, WantHolds, first_of, left_heap, misfit, plain, printed_value, there_value, wanted, wanted_cell, whole_heap}
 use Rattle.sf_witness.proofs.Equations.{among-rest, consistent-new, default-bound, meets-found, meets-new, meets-term, nothing-consistent, refutes-found, refutes-term, with_default}
 use Rattle.sf_witness.proofs.Finite.{cells-heap, cells_of_atoms}
 use Rattle.sf_witness.proofs.Rising.{keys-at}
 use Rattle.sf_witness.proofs.Heaps.{len-decides}
 use Rattle.sf_witness.proofs.HeapParts.{foot-part, nothing_made, part-foot}
 use Rattle.sf_witness.proofs.Wants.{equality-none, equality-some}
-use Rattle.sf_witness.proofs.Views.{holds-in, points-in, segment-in, tree-in}
+use Rattle.sf_witness.proofs.Views.{double-in, holds-in, points-in, segment-in, tree-in}
 use Rattle.sf_witness.proofs.Wishes.{different-both, different-free, different-one, different-second, equal-both, equal-first, equal-second, segment-both, segment-equal, tree-none, tree-term}
 
 -- it is so or not
@@ -258,6 +258,17 @@ module _ (bindings : List (Option Term)) where
       go (Some t) e (Some u) f = by (segment-both bindings next x y t u (heap_of m) e f)
           (part-decided decided (segment p next (variable 0) (variable 1)) (two (value_at t) (value_at u)) m (tt, tt))
 
+  abbrev of_four : (from before last to : Value) → Var → Value
+  of_four from before last to (Own n) = cond (n == 0) from (cond (n == 1) before (cond (n == 2) last to))
+  of_four from before last to (Shared r n) = nil
+
+  double-decided : FootprintIsDecided → (p : Place) (next back : FieldId) (o : Option (Term × Term × Term × Term))
+      (m : Cells) → IsDecided (HasDoubleOf next back o (heap_of m))
+  double-decided decided p next back None m = inr (λ w. w)
+  double-decided decided p next back (Some d) m =
+      part-decided decided (doubly p next back (variable 0) (variable 1) (variable 2) (variable 3))
+      (of_four (value_at d.0) (value_at d.1) (value_at d.2) (value_at d.3)) m (tt, tt, tt, tt)
+
   tree-decided : FootprintIsDecided → (p : Place) (l r : FieldId) (x : Operand Term) (m : Cells)
       → IsDecided (HasTreeWith bindings l r x (heap_of m))
   tree-decided decided p l r x m = go (term_of bindings x) refl
@@ -273,6 +284,8 @@ module _ (bindings : List (Option Term)) where
   in-decided decided (points p x fs) m = by (points-in (heap_of m) bindings p x fs) (points-decided x fs m)
   in-decided decided (segment p next x y) m =
       by (segment-in (heap_of m) bindings p next x y) (segment-decided decided p next x y m)
+  in-decided decided (doubly p next back x b l y) m =
+      by (double-in (heap_of m) bindings p next back x b l y) (double-decided decided p next back (four bindings x b l y) m)
   in-decided decided (tree p l r x) m = by (tree-in (heap_of m) bindings p l r x) (tree-decided decided p l r x m)
   in-decided decided (choose p t this that) m = inr (λ w. w)
 

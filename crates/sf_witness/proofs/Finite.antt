@@ -1,6 +1,6 @@
 -- The heap of atoms as a finite map, with each cell as a list of values.
 -- Names: `put-LAW`, `cells-LAW`.
-use Rattle.std.proofs.Common.{◌≡◌, ◌<◌, ◌==◌, ◌+◌, ℕ, zero, suc, Bool, true, false, cond, List, [], ◌∷◌, ◌++◌, Option, Some, None, get_or, length, replicate, set, refl, sym, ap, ◌∙◌, arith}
+use Rattle.std.proofs.Common.{◌≡◌, ◌==◌, ◌+◌, ℕ, zero, suc, Bool, true, false, cond, List, [], ◌∷◌, ◌++◌, Option, Some, None, get_or, replicate, set, refl, sym, ap, ◌∙◌, arith}
 use Rattle.std.specs.FinMap.{empty, get, get-empty, get-insert, insert}
 use Rattle.std.specs.Option.{option_map, option_or}
 use Rattle.std.specs.Ordering.{nat_cmp}
@@ -15,15 +15,16 @@ use Rattle.sf_base.specs.HeapStore.{Cell, Heap, put_field}
 use Rattle.sf_core.specs.declared.fields.Links.{Links}
 use Rattle.sf_heap.specs.Cells.{Cells, FieldValues, cell_of, heap_of}
 use Rattle.sf_sym.specs.declared.atom.Atom.{Atom}
-use Rattle.sf_sym.specs.declared.atom.Atom.TheVariants.{Points, Ls, Tree}
+use Rattle.sf_sym.specs.declared.atom.Atom.TheVariants.{Points, Ls, Tree, Dll}
 use Rattle.sf_sym.specs.declared.atom.Numbered.{Numbered}
 use Rattle.sf_sym.specs.declared.term.Term.{Term}
 use Rattle.sf_sym.specs.declared.term.Term.TheVariants.{Nil, Int, Sym}
 use Rattle.sf_sym.specs.Known.{is_nothing}
-use Rattle.sf_sym.specs.Tests.{root}
+use Rattle.sf_sym.specs.Tests.{root, same_term}
 use Rattle.sf_witness.specs.Located.{value_at}
-use Rattle.sf_witness.specs.WitnessState.{beside, cell_of_atom, heap_of_atom, heap_of_atoms, nil_cell, one_cell, with_fields, with_link}
+use Rattle.sf_witness.specs.WitnessState.{beside, cell_of_atom, double_cell, heap_of_atoms, one_cell, with_fields, with_last, with_link}
 use Rattle.sf_witness.proofs.CellValues.{cell-put}
+use Rattle.sf_witness.proofs.Heaps.{beside-assoc}
 
 -- a value in a list that is made long enough
 abbrev pub put_value : List Value → ℕ → Value → List Value
@@ -56,24 +57,35 @@ fields-cell (f ∷ fs) xs =
     fields-cell fs (put_value xs f.0.0 (value_at f.1))
     ∙ ap (with_fields fs) (put-cell xs f.0.0 (value_at f.1))
 
-abbrev pub link_values : Option FieldId → Term → List Value
-link_values None t = []
-link_values (Some link) t = put_value [] link.0 (value_at t)
+abbrev pub link_values : Option FieldId → Term → List Value → List Value
+link_values None t xs = xs
+link_values (Some link) t xs = put_value xs link.0 (value_at t)
 
-link-cell : (link : Option FieldId) (t : Term) → cell_of (link_values link t) ≡ with_link link t nil_cell
-link-cell None t = refl
-link-cell (Some link) t = put-cell [] link.0 (value_at t)
+link-cell : (link : Option FieldId) (t : Term) (xs : List Value)
+    → cell_of (link_values link t xs) ≡ with_link link t (cell_of xs)
+link-cell None t xs = refl
+link-cell (Some link) t xs = put-cell xs link.0 (value_at t)
+
+abbrev pub double_values : (next back : Option FieldId) → (to before : Term) → List Value
+double_values next back to before = link_values back before (link_values next to [])
+
+double-cell : (next back : Option FieldId) (to before : Term)
+    → cell_of (double_values next back to before) ≡ double_cell next back to before
+double-cell next back to before =
+    link-cell back before (link_values next to []) ∙ ap (with_link back before) (link-cell next to [])
 
 -- the values of an atom's cell
 abbrev pub atom_values : Links → Atom → List Value
 atom_values links (Points t fields) = values_of_fields fields []
-atom_values links (Ls t u) = link_values links.tl u
+atom_values links (Ls t u) = link_values links.tl u []
 atom_values links (Tree t) = []
+atom_values links (Dll v p l u) = double_values links.tl links.pv (cond (same_term l v) u l) p
 
 atom-cell : (links : Links) (a : Atom) → cell_of (atom_values links a) ≡ cell_of_atom links a
 atom-cell links (Points t fields) = fields-cell fields []
-atom-cell links (Ls t u) = link-cell links.tl u
+atom-cell links (Ls t u) = link-cell links.tl u []
 atom-cell links (Tree t) = refl
+atom-cell links (Dll v p l u) = double-cell links.tl links.pv (cond (same_term l v) u l) p
 
 -- a cell put at a term
 abbrev pub put_at : Term → FieldValues → Cells → Cells
@@ -100,12 +112,40 @@ put-beside (Sym n) v m = λ i l. at l (l == suc n) refl i
         inserted l ∙ ap (λ b. option_map cell_of (cond b (Some v) (get m l))) e
         ∙ sym (ap (λ b. option_or (cond b (Some (cell_of v)) None) (heap_of m l)) e)
 
+-- the last cell of an atom, put among others
+abbrev pub put_last : Links → Atom → Cells → Cells
+put_last links (Points t fields) m = m
+put_last links (Ls t u) m = m
+put_last links (Tree t) m = m
+put_last links (Dll v p l u) m = cond (same_term l v) m (put_at l (double_values links.tl links.pv u v) m)
+
+last-cells : (links : Links) (a : Atom) (h : Heap) (m : Cells)
+    → beside h (heap_of (put_last links a m)) ≡ beside (with_last links a h) (heap_of m)
+last-cells links (Points t fields) h m = refl
+last-cells links (Ls t u) h m = refl
+last-cells links (Tree t) h m = refl
+last-cells links (Dll v p l u) h m = go (same_term l v)
+  where
+    values : FieldValues
+    values = double_values links.tl links.pv u v
+
+    cell : Cell
+    cell = double_cell links.tl links.pv u v
+
+    go : (b : Bool) → beside h (heap_of (cond b m (put_at l values m)))
+        ≡ beside (cond b h (beside h (one_cell l cell))) (heap_of m)
+    go true = refl
+    go false =
+        ap (beside h)
+        (put-beside l values m ∙ ap (λ c. beside (one_cell l c) (heap_of m)) (double-cell links.tl links.pv u v))
+        ∙ sym (beside-assoc h (one_cell l cell) (heap_of m))
+
 -- the cells of atoms
 abbrev pub cells_of_atoms : Links → List Numbered → Cells
 cells_of_atoms links [] = empty
 cells_of_atoms links (a ∷ rest) =
     cond (is_nothing a.atom) (cells_of_atoms links rest)
-    (put_at (root a.atom) (atom_values links a.atom) (cells_of_atoms links rest))
+    (put_at (root a.atom) (atom_values links a.atom) (put_last links a.atom (cells_of_atoms links rest)))
 
 -- they are their heap
 pub cells-heap : (links : Links) (xs : List Numbered) → heap_of (cells_of_atoms links xs) ≡ heap_of_atoms links xs
@@ -114,10 +154,12 @@ cells-heap links (x ∷ xs) = go (is_nothing x.atom) refl (cells-heap links xs)
   where
     go : (b : Bool) → is_nothing x.atom ≡ b → heap_of (cells_of_atoms links xs) ≡ heap_of_atoms links xs
         → heap_of (cond b (cells_of_atoms links xs)
-        (put_at (root x.atom) (atom_values links x.atom) (cells_of_atoms links xs)))
-        ≡ beside (cond b (λ location. None) (one_cell (root x.atom) (cell_of_atom links x.atom)))
+        (put_at (root x.atom) (atom_values links x.atom) (put_last links x.atom (cells_of_atoms links xs))))
+        ≡ beside
+        (cond b (λ location. None) (with_last links x.atom (one_cell (root x.atom) (cell_of_atom links x.atom))))
         (heap_of_atoms links xs)
     go true e h = h
     go false e h =
-        put-beside (root x.atom) (atom_values links x.atom) (cells_of_atoms links xs)
-        ∙ (λ i. beside (one_cell (root x.atom) (atom-cell links x.atom i)) (h i))
+        put-beside (root x.atom) (atom_values links x.atom) (put_last links x.atom (cells_of_atoms links xs))
+        ∙ last-cells links x.atom (one_cell (root x.atom) (cell_of (atom_values links x.atom))) (cells_of_atoms links xs)
+        ∙ (λ i. beside (with_last links x.atom (one_cell (root x.atom) (atom-cell links x.atom i))) (h i))

@@ -11,10 +11,14 @@ use Rattle.sf_base.specs.HeapStore.{Cell, Heap, IsEmpty}
 use Rattle.sf_base.proofs.HeapSplits.{at-same}
 use Rattle.sf_heap.specs.Cells.{Cells, FieldValues, HasCell, cell_of, heap_of}
 use Rattle.sf_core.specs.declared.fields.Links.{Links}
+use Rattle.sf_sym.specs.declared.atom.Atom.{Atom}
+use Rattle.sf_sym.specs.declared.atom.Atom.TheVariants.{Points, Ls, Tree, Dll}
 use Rattle.sf_sym.specs.declared.atom.Numbered.{Numbered}
 use Rattle.sf_sym.specs.declared.term.Term.{Term}
 use Rattle.sf_sym.specs.declared.term.Term.TheVariants.{Sym}
-use Rattle.sf_witness.specs.WitnessState.{beside, heap_of_atom, heap_of_atoms, one_cell}
+use Rattle.sf_sym.specs.Known.{is_nothing}
+use Rattle.sf_sym.specs.Tests.{root, same_term}
+use Rattle.sf_witness.specs.WitnessState.{beside, cell_of_atom, double_cell, heap_of_atom, heap_of_atoms, one_cell, with_last}
 
 -- nothing beside a heap
 pub beside-nothing : (h : Heap) → beside h (λ l. None) ≡ h
@@ -31,6 +35,32 @@ beside-assoc a b c = λ i l. at l (a l) i
     at : (l : ℕ) (o : Option Cell) → option_or (option_or o (b l)) (c l) ≡ option_or o (option_or (b l) (c l))
     at l None = refl
     at l (Some d) = refl
+
+-- the last cell of an atom comes behind what there is
+pub last-beside : (links : Links) (a : Atom) (h g : Heap)
+    → with_last links a (beside h g) ≡ beside h (with_last links a g)
+last-beside links (Points t fields) h g = refl
+last-beside links (Ls t u) h g = refl
+last-beside links (Tree t) h g = refl
+last-beside links (Dll v p l u) h g = go (same_term l v)
+  where
+    cell : Heap
+    cell = one_cell l (double_cell links.tl links.pv u v)
+
+    go : (b : Bool) → cond b (beside h g) (beside (beside h g) cell) ≡ beside h (cond b g (beside g cell))
+    go true = refl
+    go false = beside-assoc h g cell
+
+-- so the cells of an atom that isn't empty come one after the other
+pub atom-added : (links : Links) (a : Atom) (t : Term) (cell : Cell) (old first new : Heap) → is_nothing a ≡ false
+    → t ≡ root a → cell ≡ cell_of_atom links a → first ≡ beside old (one_cell t cell) → new ≡ with_last links a first
+    → new ≡ beside old (heap_of_atom links a)
+atom-added links a t cell old first new some at is put last =
+    last
+    ∙ ap (with_last links a) (put ∙ (λ i. beside old (one_cell (at i) (is i))))
+    ∙ last-beside links a old (one_cell (root a) (cell_of_atom links a))
+    ∙ sym (ap (λ b. beside old
+    (cond b (λ location. None) (with_last links a (one_cell (root a) (cell_of_atom links a))))) some)
 
 -- one more atom's heap comes before those of the others
 pub atoms-next : (links : Links) (h after : Heap) (a : Numbered) (rest : List Numbered)

@@ -3,7 +3,7 @@
 use Rattle.std.proofs.Common.{◌≡◌, ℕ, ◌==◌, Bool, true, false, ◌&&◌, ◌||◌, not, List, [], ◌∷◌, ◌++◌, refl, sym, ap, ◌∙◌}
 use Rattle.std.specs.BTreeMap.{is_at}
 use Rattle.std.specs.BTreeSet.{BTreeSet, IsEmpty, contains}
-use Rattle.std.specs.List.{AllByRecursion, IsDistinct, list_any}
+use Rattle.std.specs.List.{AllByRecursion, IsDistinct, list_all, list_any}
 use Rattle.std.specs.Ordering.{nat_cmp}
 use Rattle.std.proofs.lemmas.List.{append-nil}
 use Rattle.std.proofs.lemmas.Grind.{flat_map-append}
@@ -14,7 +14,7 @@ use Rattle.sf_sym.specs.declared.term.Term.TheVariants.{Nil, Int, Sym}
 use Rattle.sf_sym.specs.State.{State}
 use Rattle.sf_sym.specs.Tests.{is_absurd, is_constant, parts, same_term}
 use Rattle.sf_witness.specs.Checked.Own.{are_new, is_new, seeing}
-use Rattle.sf_witness.specs.Normal.{Normal, all_roots, roots}
+use Rattle.sf_witness.specs.Normal.{Normal, all_roots, is_open, roots}
 
 and-both : (a b : Bool) → a ≡ true → b ≡ true → a && b ≡ true
 and-both true b e f = f
@@ -105,18 +105,36 @@ new-symbols (t ∷ ts) a = (new-symbol t a.0, new-symbols ts a.1)
 pub roots-parts : (s : State) → all_roots (parts s) ≡ all_roots s.atoms ++ all_roots s.taken
 roots-parts s = flat_map-append (λ a. roots a.atom) s.atoms s.taken
 
--- a state that isn't absurd and whose roots are new is normal
+-- a test of all parts is one of the two lists
+all-parts : (p : Numbered → Bool) (xs ys : List Numbered) → list_all p xs && list_all p ys ≡ list_all p (xs ++ ys)
+all-parts p [] ys = refl
+all-parts p (x ∷ xs) ys = go (p x) (all-parts p xs ys)
+  where
+    go : (b : Bool) → list_all p xs && list_all p ys ≡ list_all p (xs ++ ys)
+        → (b && list_all p xs) && list_all p ys ≡ b && list_all p (xs ++ ys)
+    go true e = e
+    go false e = refl
+
+pub open_parts : (s : State) → list_all (λ a. is_open a.atom) s.atoms && list_all (λ a. is_open a.atom) s.taken
+    ≡ list_all (λ a. is_open a.atom) (parts s)
+open_parts s = all-parts (λ a. is_open a.atom) s.atoms s.taken
+
+-- a state that isn't absurd, whose roots are new, and whose atoms don't end there is normal
 pub normal_is : (s : State) → are_new (λ n. false) (all_roots s.atoms ++ all_roots s.taken) ≡ true
-    → is_absurd s ≡ false → Normal s
-normal_is s e p =
+    → list_all (λ a. is_open a.atom) (parts s) ≡ true → is_absurd s ≡ false → Normal s
+normal_is s e ends p =
     let both = new-parts (λ n. false) (all_roots (parts s)) (ap (are_new (λ n. false)) (roots-parts s) ∙ e) in
-    record { possible = p; symbols = new-symbols (all_roots (parts s)) both.0; own = both.1 }
+    record { possible = p; symbols = new-symbols (all_roots (parts s)) both.0; own = both.1; ends = ends }
 
 -- a normal state's roots are new
 pub normal_has : (s : State) → Normal s → are_new (λ n. false) (all_roots s.atoms ++ all_roots s.taken) ≡ true
 normal_has s n =
     sym (ap (are_new (λ n. false)) (roots-parts s))
     ∙ new-whole (λ n. false) (all_roots (parts s)) (symbols-new (all_roots (parts s)) n.symbols) n.own
+
+-- its atoms don't end there
+pub normal_open : (s : State) → Normal s → list_all (λ a. is_open a.atom) (parts s) ≡ true
+normal_open s n = n.ends
 
 -- an empty set has seen nothing
 none-seen : (seen : BTreeSet ℕ) → IsEmpty seen → contains nat_cmp seen ≡ (λ n. false)

@@ -1,8 +1,8 @@
 -- Each goal has exactly one text of its witness.
 -- Names: `each_goal_has_a_text`, `each_goal_has_one_text`.
-use Rattle.std.proofs.Common.{◌≡◌, ◌↔◌, ◌⊎◌, ◌++◌, ℕ, Bool, true, false, List, codes, refl, sym, ap, ◌∙◌, inl, inr}
+use Rattle.std.proofs.Common.{◌≡◌, ◌↔◌, ◌++◌, Bool, true, false, codes, refl, sym, ap, ◌∙◌, inl, inr}
 use Rattle.std.specs.FinMap.{keys}
-use Rattle.std.specs.List.{flat_map}
+use Rattle.std.specs.List.{flat_map, list_all}
 use Rattle.sf_base.specs.declared.ids.ProcId.{ProcId}
 use Rattle.sf_core.specs.Program.Syntax.{Program}
 use Rattle.sf_foot.specs.Checked.Laws.{FootprintIsDecided}
@@ -13,7 +13,7 @@ use Rattle.sf_sym.specs.State.{State}
 use Rattle.sf_sym.specs.Tests.{is_absurd, parts}
 use Rattle.sf_witness.specs.Checked.Laws.{EachGoalHasAText, EachGoalHasOneText}
 use Rattle.sf_witness.specs.Checked.Own.{are_new}
-use Rattle.sf_witness.specs.Normal.{Normal, all_roots}
+use Rattle.sf_witness.specs.Normal.{Normal, all_roots, is_open}
 use Rattle.sf_witness.specs.Wanted.{WantHolds, whole_heap}
 use Rattle.sf_witness.specs.WitnessState.{values}
 use Rattle.sf_witness.specs.WitnessText.{IsTextOfWitness, WitnessText, cell_line, first_line, has_none, has_witness, value_line, want_line}
@@ -26,13 +26,15 @@ use Rattle.sf_witness.proofs.Texts.{heap-at}
 -- a state is normal or not
 normal-decided : (s : State) → IsDecided (Normal s)
 normal-decided s =
-    go (are_new (λ n. false) (all_roots s.atoms ++ all_roots s.taken)) refl (is_absurd s) refl
+    go (are_new (λ n. false) (all_roots s.atoms ++ all_roots s.taken)) refl (list_all (λ a. is_open a.atom) (parts s)) refl
+    (is_absurd s) refl
   where
-    go : (a : Bool) → are_new (λ n. false) (all_roots s.atoms ++ all_roots s.taken) ≡ a → (b : Bool)
-        → is_absurd s ≡ b → IsDecided (Normal s)
-    go false e b f = inr (λ n. let k : false ≡ true = sym e ∙ normal_has s n in absurd (cc))
-    go true e true f = inr (λ n. let k : true ≡ false = sym f ∙ n.possible in absurd (cc))
-    go true e false f = inl (normal_is s e f)
+    go : (a : Bool) → are_new (λ n. false) (all_roots s.atoms ++ all_roots s.taken) ≡ a → (o : Bool)
+        → list_all (λ a. is_open a.atom) (parts s) ≡ o → (b : Bool) → is_absurd s ≡ b → IsDecided (Normal s)
+    go false e o g b f = inr (λ n. let k : false ≡ true = sym e ∙ normal_has s n in absurd (cc))
+    go true e false g b f = inr (λ n. let k : false ≡ true = sym g ∙ n.ends in absurd (cc))
+    go true e true g true f = inr (λ n. let k : true ≡ false = sym f ∙ n.possible in absurd (cc))
+    go true e true g false f = inl (normal_is s e g f)
 
 -- the answer to whether it fails
 says : {P : Type 0} → IsDecided P → (fails : Bool) × ((fails ≡ false) ↔ P)

@@ -1,22 +1,31 @@
 -- How the code's conjuncts of terms are read, form by form; and when a part of a heap satisfies one.
 -- Names: `view-FORM`, `FORM-in`.
-use Rattle.std.proofs.Common.{◌≡◌, ◌↔◌, Bool, IsTrue, List, Option, Vec, Global, sym, ap, ◌∙◌, subst}
+use Rattle.std.specs.Option.{option_map}
+use Rattle.std.proofs.Common.{◌≡◌, ◌↔◌, ℕ, Bool, IsTrue, List, Option, Some, None, Vec, Global, refl, sym, ap, ◌∙◌, subst, subst₂}
 use Rattle.sf_base.specs.declared.ids.FieldId.{FieldId}
 use Rattle.sf_base.specs.declared.place.Place.{Place}
+use Rattle.sf_base.specs.declared.value.Value.{Value}
+use Rattle.sf_base.specs.declared.value.Value.TheVariants.{Nil as nil}
 use Rattle.sf_base.specs.HeapStore.{Heap}
 use Rattle.sf_base.proofs.HeapSplits.{one-single, one-splits, remove_cell, single}
 use Rattle.sf_base.proofs.MapSplits.{empty_map, empty-holds, splits-empty_left, splits-has_left}
-use Rattle.sf_core.specs.declared.assertion.Conjunct.{Holds, Points, Segment, Tree}
-use Rattle.sf_core.specs.declared.assertion.Conjunct.TheVariants.{rolls-Holds, rolls-Points, rolls-Segment, rolls-Tree}
+use Rattle.sf_consume.proofs.DoubleTerms.{HasFour, double-sat, four-are}
+use Rattle.sf_consume.specs.Subtract.{four}
+use Rattle.sf_core.specs.Assertions.Sat.{Dseg, SatOne, operand}
+use Rattle.sf_core.specs.declared.assertion.Conjunct.{Holds, Points, Segment, Doubly, Tree}
+use Rattle.sf_core.specs.declared.assertion.Conjunct.TheVariants.{rolls-Holds, rolls-Points, rolls-Segment, rolls-Doubly, rolls-Tree}
 use Rattle.sf_core.specs.declared.assertion.Conjunct.TheFolds.{fold-roll-Conjunct}
 use Rattle.sf_core.specs.declared.assertion.Operand.{Operand}
 use Rattle.sf_core.specs.declared.assertion.Test.{Test}
-use Rattle.sf_core.specs.Program.Syntax.{Conjunct, holds, points, segment, tree, Level}
+use Rattle.sf_core.specs.Program.Syntax.{Conjunct, holds, points, segment, doubly, tree, Level}
 use Rattle.sf_core.specs.Program.View.{conjunct_of, conjunct_step, level_step}
 use Rattle.sf_sym.specs.declared.term.Term.{Term}
+use Rattle.sf_sym.specs.Holds.{IsBound, term_value}
 use Rattle.sf_witness.specs.Checked.Meeting.{HasCellAs}
-use Rattle.sf_witness.specs.Checked.Wishes.{HasSegmentWith, HasTreeWith, IsTrueWith}
+use Rattle.sf_witness.specs.Checked.Wishes.{HasDoubleOf, HasSegmentWith, HasTreeWith, IsTrueWith}
+use Rattle.sf_witness.specs.Located.{located, value_at}
 use Rattle.sf_witness.specs.Wanted.{IsIn, IsSatisfied, plain}
+use Rattle.sf_witness.proofs.Equations.{default-bound, operand-term, with_default}
 
 pub view-holds : (p : Place) (t : Test (Operand Term)) → conjunct_of {E = Term} (Holds p t) ≡ holds p t
 view-holds p t = ap (conjunct_of {E = Term}) (sym (rolls-Holds p t))
@@ -30,6 +39,11 @@ view-points p x v = ap (conjunct_of {E = Term}) (sym (rolls-Points p x v))
 pub view-segment : (p : Place) (f : FieldId) (x y : Operand Term)
     → conjunct_of {E = Term} (Segment p f x y) ≡ segment p f x y
 view-segment p f x y = ap (conjunct_of {E = Term}) (sym (rolls-Segment p f x y))
+    ∙ fold-roll-Conjunct Term (Conjunct Term) (Level Term) conjunct_step level_step _
+
+pub view-doubly : (p : Place) (f g : FieldId) (x b l y : Operand Term)
+    → conjunct_of {E = Term} (Doubly p f g x b l y) ≡ doubly p f g x b l y
+view-doubly p f g x b l y = ap (conjunct_of {E = Term}) (sym (rolls-Doubly p f g x b l y))
     ∙ fold-roll-Conjunct Term (Conjunct Term) (Level Term) conjunct_step level_step _
 
 pub view-tree : (p : Place) (l r : FieldId) (x : Operand Term)
@@ -90,6 +104,48 @@ module _ (heap : Heap) (bindings : List (Option Term)) (p : Place) where
     },
     λ i. (i.some, i.bound, record { part = i.part; rest = i.rest; splits = i.splits; is = i.sat }),
   )
+
+  -- a doubly linked segment of the part that is one between the operands' terms
+  double-terms : (next back : FieldId) (x b l y : Operand Term) (d : Term × Term × Term × Term) (some : ℕ → Value)
+      (part : Heap)
+      → IsBound located bindings some → HasFour bindings x b l y d
+      → SatOne (doubly p next back x b l y) (term_value located) some part
+      → Dseg next back (value_at d.2) (value_at d.3) (value_at d.1) (value_at d.0) part
+  double-terms next back x b l y d some part bound four s =
+      subst₂ (λ i j. Dseg next back i j (value_at d.1) (value_at d.0) part)
+      (operand-term bindings some l d.2 bound four.last) (operand-term bindings some y d.3 bound four.to)
+      (subst₂ (λ i j.
+      Dseg next back (operand (term_value located) some l) (operand (term_value located) some y) i j part)
+      (operand-term bindings some b d.1 bound four.before) (operand-term bindings some x d.0 bound four.from) s)
+
+  pub double-in : (next back : FieldId) (x b l y : Operand Term)
+      → HasDoubleOf next back (four bindings x b l y) heap
+      ↔ IsIn heap (plain bindings (doubly p next back x b l y))
+  double-in next back x b l y = go (four bindings x b l y) refl
+    where
+      go : (o : Option (Term × Term × Term × Term)) → four bindings x b l y ≡ o
+          → HasDoubleOf next back o heap
+          ↔ IsIn heap
+          (option_map (λ d. record { bindings = bindings; conjunct = doubly p next back x b l y }) o)
+      go None e = (λ w. w, λ w. w)
+      go (Some d) e =
+          let terms = four-are bindings x b l y d e in (
+            λ h. record {
+              some = with_default bindings nil;
+              bound = default-bound bindings nil;
+              part = h.part;
+              rest = h.rest;
+              splits = h.splits;
+              sat = double-sat located (with_default bindings nil) bindings p next back x b l y d h.part
+                  (default-bound bindings nil) terms h.is;
+            },
+            λ i. record {
+              part = i.part;
+              rest = i.rest;
+              splits = i.splits;
+              is = double-terms next back x b l y d i.some i.part i.bound terms i.sat;
+            },
+          )
 
   pub tree-in : (l r : FieldId) (x : Operand Term)
       → HasTreeWith bindings l r x heap

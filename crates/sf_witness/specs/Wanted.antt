@@ -6,10 +6,11 @@ use Rattle.sf_base.specs.declared.value.Value.{Value}
 use Rattle.sf_base.specs.declared.value.Value.TheVariants.{Nil as nil, Loc as loc}
 use Rattle.sf_base.specs.HeapStore.{Heap, IsEmpty, Splits}
 use Rattle.sf_core.specs.Assertions.Sat.{SatOne}
-use Rattle.sf_core.specs.Program.Syntax.{Conjunct, points, choose, Conjuncts, none, also}
+use Rattle.sf_consume.specs.Subtract.{four}
+use Rattle.sf_core.specs.Program.Syntax.{Conjunct, points, doubly, choose, Conjuncts, none, also}
 use Rattle.sf_sym.specs.declared.stuck.Stuck.{Stuck}
 use Rattle.sf_sym.specs.declared.stuck.Stuck.TheVariants.{NoCell, NotEqual, NotDifferent, NoAtom, Leak, EndNotAllocated}
-use Rattle.sf_report.specs.Wanted.{address, misfit_at}
+use Rattle.sf_report.specs.Wanted.{address, double_misfit, misfit_at}
 use Rattle.sf_sym.specs.declared.term.Term.{Term}
 use Rattle.sf_sym.specs.Below.{is_below}
 use Rattle.sf_sym.specs.Goal.{Goal, Item, run, take}
@@ -34,9 +35,12 @@ pub record Want : Type 0 where
   pub bindings : List (Option Term)
   pub conjunct : Conjunct Term
 
--- the conjunct, if it is no choice: no search is stuck at one
+-- the conjunct, if it is no choice, and no doubly linked segment of which an operand has no term: no search for a proof
+-- of a program is stuck at one
 abbrev pub plain : List (Option Term) → Conjunct Term → Option Want
 plain bindings (choose p t this that) = None
+plain bindings (doubly p next back x b l y) =
+    option_map (λ d. record { bindings = bindings; conjunct = doubly p next back x b l y }) (four bindings x b l y)
 plain bindings c = Some (record { bindings = bindings; conjunct = c })
 
 -- the first conjunct
@@ -73,9 +77,11 @@ abbrev pub there_value : (next_sym : ℕ) → Option Term → Value
 there_value next None = nil
 there_value next (Some t) = printed_value next t
 
--- AN EQUALITY where a wanted cell doesn't fit the cell that is there, the two terms that meet in its first such field
+-- AN EQUALITY where a wanted cell doesn't fit the cell that is there, the two terms that meet in its first such field; the
+-- two that should be one for a doubly linked segment
 abbrev pub misfit : State → List (Option Term) → Conjunct Term → Option (Option Term × Term)
 misfit s bindings (points p x fs) = misfit_at s bindings x fs
+misfit s bindings (doubly p next back x b l y) = double_misfit s bindings back x b l y
 misfit s bindings _ = None
 
 -- the two are the same; without such a field, a part of the heap satisfies the conjunct

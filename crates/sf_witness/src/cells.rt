@@ -4,7 +4,7 @@ ghost use Rattle.std.specs.Prelude.{◌≡◌, IfOk, OnOk, replicate};
 ghost use Rattle.sf_base.specs.HeapStore.{put_field};
 ghost use Rattle.sf_base.specs.declared.value.Value.TheVariants.{Nil as nil};
 ghost use Rattle.sf_heap.specs.Cells.{cell_of, heap_of};
-ghost use Rattle.sf_witness.specs.WitnessState.{beside, cell_of_atom, heap_of_atom, heap_of_atoms, nil_cell, one_cell, with_fields, with_link};
+ghost use Rattle.sf_witness.specs.WitnessState.{beside, cell_of_atom, double_cell, heap_of_atom, heap_of_atoms, nil_cell, one_cell, with_fields, with_last, with_link};
 
 use crate::values::value_at;
 use sf_base::{FieldId, Value};
@@ -51,7 +51,23 @@ fn put_link(values: &mut Vec<Value>, link: Option<FieldId>, t: Term) -> Result<(
     }
 }
 
-/// The cell of an atom that has one, with that many fields at least. An `Err` means out of memory.
+/// Puts the values of two terms into the links of a doubly linked segment, where there are such
+/// fields. An `Err` means out of memory.
+fn put_links(
+    values: &mut Vec<Value>,
+    links: Links,
+    to: Term,
+    before: Term,
+) -> Result<(), AllocError>
+    ensures { OnOk result (cell_of values.new.items
+        ≡ with_link links.pv before (with_link links.tl to (cell_of values.old.items))) }
+{
+    put_link(values, links.tl, to)?;
+    put_link(values, links.pv, before)
+}
+
+/// The first cell of an atom that has one, with that many fields at least. An `Err` means out of
+/// memory.
 fn cell_of_atom(alloc: Global, fields: usize, links: Links, atom: &Atom) -> Result<Cell, AllocError>
     ensures { IfOk result (λ cell. cell_of cell ≡ cell_of_atom links atom.now) }
 {
@@ -60,6 +76,10 @@ fn cell_of_atom(alloc: Global, fields: usize, links: Links, atom: &Atom) -> Resu
         Atom::Points(_, known) => put_fields(&mut values, known.as_slice())?,
         Atom::Ls(_, end) => put_link(&mut values, links.tl, *end)?,
         Atom::Tree(_) => {}
+        Atom::Dll(v, p, l, u) => {
+            let to = if l.is(*v) { *u } else { *l };
+            put_links(&mut values, links, to, *p)?
+        }
     }
     Ok(Cell::from_values(values))
 }
@@ -88,7 +108,46 @@ fn put_cell(alloc: Global, heap: &mut Heap, at: Term, cell: Cell) -> Result<(), 
     }
 }
 
-/// Adds the cell of an atom, if it has one. An `Err` means out of memory.
+/// A cell of a doubly linked segment that leads there, and back to that, with that many fields at
+/// least. An `Err` means out of memory.
+fn double_cell(
+    alloc: Global,
+    fields: usize,
+    links: Links,
+    to: Term,
+    before: Term,
+) -> Result<Cell, AllocError>
+    ensures { IfOk result (λ cell. cell_of cell ≡ double_cell links.tl links.pv to before) }
+{
+    let mut values = nil_values(alloc, fields)?;
+    put_links(&mut values, links, to, before)?;
+    Ok(Cell::from_values(values))
+}
+
+/// Adds the last cell of a doubly linked segment, where that is another than its first. An `Err`
+/// means out of memory.
+fn add_last(
+    alloc: Global,
+    heap: &mut Heap,
+    fields: usize,
+    links: Links,
+    atom: &Atom,
+) -> Result<(), AllocError>
+    ensures { OnOk result (heap_of heap.new ≡ with_last links atom.now (heap_of heap.old)) }
+{
+    match atom {
+        Atom::Points(..) | Atom::Ls(..) | Atom::Tree(_) => Ok(()),
+        Atom::Dll(v, _, l, u) => {
+            if l.is(*v) {
+                return Ok(());
+            }
+            let cell = double_cell(alloc, fields, links, *u, *v)?;
+            put_cell(alloc, heap, *l, cell)
+        }
+    }
+}
+
+/// Adds the cells of an atom, if it has some. An `Err` means out of memory.
 fn add_atom(
     alloc: Global,
     heap: &mut Heap,
@@ -103,7 +162,8 @@ fn add_atom(
         return Ok(());
     }
     let cell = cell_of_atom(alloc, fields, links, atom)?;
-    put_cell(alloc, heap, atom.root(), cell)
+    put_cell(alloc, heap, atom.root(), cell)?;
+    add_last(alloc, heap, fields, links, atom)
 }
 
 /// Adds the cells of atoms, each with that many fields at least. An `Err` means out of memory.

@@ -2,7 +2,7 @@
 
 ghost use Rattle.std.specs.Prelude.{◌≡◌, ◌↔◌, false, IfOk, IsTrue};
 ghost use Rattle.sf_core.specs.Assertions.InOrder.{IsNext};
-ghost use Rattle.sf_core.specs.Assertions.Sat.{SatOne, Seg, Tree, value};
+ghost use Rattle.sf_core.specs.Assertions.Sat.{Dseg, SatOne, Seg, Tree, value};
 ghost use Rattle.sf_core.specs.Program.View.{conjunct_of};
 ghost use Rattle.sf_foot.specs.Variables.{value_of};
 ghost use Rattle.sf_heap.specs.Cells.{heap_of};
@@ -76,6 +76,36 @@ pub fn has_segment(
 {
     let conjunct = Conjunct::Segment(NOWHERE, next, variable(0), variable(1));
     let vars = own(alloc, vec![in alloc; from, to]?);
+    let has = has_part(alloc, heap, conjunct, &vars)?;
+    Ok(has)
+}
+
+/// Whether a part of the heap is a doubly linked segment along those fields, from the first value up
+/// to the last one: before its first cell stands the second, and its last cell is at the third. An
+/// `Err` means out of memory.
+pub fn has_double(
+    alloc: Global,
+    heap: &Heap,
+    next: FieldId,
+    back: FieldId,
+    values: (Value, Value, Value, Value),
+) -> Result<bool, AllocError>
+    ensures { IfOk result (λ b. IsTrue b
+        ↔ HasPart (Dseg next back values.2 values.3 values.1 values.0) (heap_of heap.now)) }
+{
+    let conjunct = Conjunct::Doubly(
+        NOWHERE,
+        next,
+        back,
+        variable(0),
+        variable(1),
+        variable(2),
+        variable(3),
+    );
+    let vars = own(
+        alloc,
+        vec![in alloc; values.0, values.1, values.2, values.3]?,
+    );
     let has = has_part(alloc, heap, conjunct, &vars)?;
     Ok(has)
 }

@@ -3,22 +3,23 @@
 ghost use Rattle.std.specs.Option.{option_map};
 ghost use Rattle.std.specs.Prelude.{◌≡◌, ◌≢◌, ◌↔◌, ◌++◌, false, IfOk, IsTrue, List};
 ghost use Rattle.sf_consume.specs.Misfit.{met_term, misfit_of};
+ghost use Rattle.sf_consume.specs.Subtract.{four};
 ghost use Rattle.sf_core.specs.Program.View.{conjunct_of};
 ghost use Rattle.sf_core.specs.declared.assertion.Test.TheVariants.{Differ, Equal};
 ghost use Rattle.sf_heap.specs.Cells.{heap_of};
 ghost use Rattle.sf_sym.specs.Goal.{Item as Thing, goal_of, items_of, todo_of};
 ghost use Rattle.sf_sym.specs.Checked.Items.{is_nothing};
-ghost use Rattle.sf_witness.specs.Checked.Wishes.{AreSame, HasSegmentWith, HasTreeWith, IsTrueWith, is_one, plain_of, wish_of};
+ghost use Rattle.sf_witness.specs.Checked.Wishes.{AreSame, HasDoubleOf, HasSegmentWith, HasTreeWith, IsTrueWith, is_one, plain_of, wish_of};
 ghost use Rattle.sf_witness.specs.Wanted.{IsIn, IsThere, IsTrueEquality, WantHolds, left_heap, misfit, printed_value, wanted, wanted_cell, whole_heap};
 
 use crate::meeting::has_cell;
-use crate::shapes::{has_segment, has_tree};
+use crate::shapes::{has_double, has_segment, has_tree};
 use crate::values::{is_same, value_at};
 use sf_base::{FieldId, Value};
-use sf_consume::{Met, Misfit};
+use sf_consume::{Met, Misfit, four};
 use sf_core::{Conjunct, Operand, Test};
 use sf_heap::Heap;
-use sf_report::{address, misfit_at, term};
+use sf_report::{address, double_misfit, misfit_at, term};
 use sf_sym::{Goal, Item, State, Stuck, Term, peek_item, term_of};
 use std::alloc::{AllocError, Global};
 
@@ -158,6 +159,25 @@ fn has_wanted_segment(
     Ok(has)
 }
 
+/// Whether a part of the heap is a wanted doubly linked segment, whose operands all have terms. An
+/// `Err` means out of memory.
+fn has_wanted_double(
+    alloc: Global,
+    heap: &Heap,
+    next: FieldId,
+    back: FieldId,
+    terms: Option<(Term, Term, Term, Term)>,
+) -> Result<bool, AllocError>
+    ensures { IfOk result (λ b. IsTrue b ↔ HasDoubleOf next back terms (heap_of heap.now)) }
+{
+    let Some((v, p, l, u)) = terms else {
+        return Ok(false);
+    };
+    let values = (value_at(v), value_at(p), value_at(l), value_at(u));
+    let has = has_double(alloc, heap, next, back, values)?;
+    Ok(has)
+}
+
 /// Whether a part of the heap is a wanted tree. An `Err` means out of memory.
 fn has_wanted_tree(
     alloc: Global,
@@ -187,6 +207,10 @@ fn is_satisfied(alloc: Global, heap: &Heap, want: Want<'_>) -> Result<bool, Allo
         Conjunct::Segment(_, next, from, to) => {
             has_wanted_segment(alloc, heap, want.bindings, *next, from, to)
         }
+        Conjunct::Doubly(_, next, back, from, before, last, to) => {
+            let terms = four(want.bindings, *from, *before, *last, *to);
+            has_wanted_double(alloc, heap, *next, *back, terms)
+        }
         Conjunct::Tree(_, left, right, root) => {
             has_wanted_tree(alloc, heap, want.bindings, *left, *right, root)
         }
@@ -215,16 +239,20 @@ fn meets(next_sym: u32, m: Misfit) -> bool
     is_same(there, met_value(next_sym, m.wanted))
 }
 
-/// What meets in the first field of a wanted cell that doesn't fit the cell that is there. `None`
-/// exactly where there is no such field; an `Err` means out of memory.
+/// What meets in the first field of a wanted cell that doesn't fit the cell that is there, or should be
+/// one for a doubly linked segment. `None` exactly where there is no such thing; an `Err` means out of
+/// memory.
 fn misfit(alloc: Global, s: &State, want: Want<'_>) -> Result<Option<Misfit>, AllocError>
     ensures { IfOk result (λ m. option_map (misfit_of s.now.next_sym) m
         ≡ misfit s.now want.entry.bindings.now (conjunct_of want.entry.conjunct.now)) }
 {
-    let Conjunct::Points(_, root, fields) = want.conjunct else {
-        return Ok(None);
-    };
-    misfit_at(alloc, s, want.bindings, root, fields)
+    match want.conjunct {
+        Conjunct::Points(_, root, fields) => misfit_at(alloc, s, want.bindings, root, fields),
+        Conjunct::Doubly(_, _, back, x, b, l, y) => {
+            Ok(double_misfit(s, want.bindings, *back, *x, *b, *l, *y))
+        }
+        _ => Ok(None),
+    }
 }
 
 /// Whether the equality that is wanted is true. An `Err` means out of memory.

@@ -78,7 +78,8 @@ ApartKeepsWants = KeepsWants apart_step
 unfoldable pub CellKeepsWants : Type 0
 CellKeepsWants = (atom : ℕ) → KeepsWants (cell_step atom)
 
--- empty: a segment from a term to itself, and the tree of nil, need no heap
+-- empty: a segment from a term to itself, and the tree of nil, need no heap; a doubly linked segment needs none where
+-- its last cell is what stands before it, too
 unfoldable pub EmptyKeepsWants : Type 0
 EmptyKeepsWants = KeepsWants empty_step
 
@@ -86,12 +87,13 @@ EmptyKeepsWants = KeepsWants empty_step
 unfoldable pub ExactKeepsWants : Type 0
 ExactKeepsWants = (atom : ℕ) → KeepsWants (exact_step atom)
 
--- head: a cell and a segment from its link on are a segment
+-- head: a cell and a segment from its link on are a segment; a doubly linked one where the cell leads back to what
+-- stands before it, and stands before the rest
 unfoldable pub HeadKeepsWants : Type 0
 HeadKeepsWants = (atom : ℕ) → KeepsWants (head_step atom)
 
 -- join: a segment and one from its end on are a segment, where the end of both isn't inside the
--- first
+-- first; of doubly linked ones the last cell of the first stands before the second
 unfoldable pub JoinKeepsWants : Type 0
 JoinKeepsWants = (atom : ℕ) → KeepsWants (join_step atom)
 

@@ -19,14 +19,15 @@ use Rattle.sf_base.proofs.HeapSplits.{one-same, star-map_right, star-swap}
 use Rattle.sf_base.proofs.MapSplits.{empty-holds, splits-empty_right, empty-same, splits-assoc_right, splits-comm, splits-has_left, splits-same_whole}
 use Rattle.sf_core.proofs.Assertions.Sat.{test-agree, test-which}
 use Rattle.sf_core.proofs.Assertions.Segments.{loc-same, seg-same}
+use Rattle.sf_core.proofs.Assertions.DoubleSegments.{dseg-same}
 use Rattle.sf_core.proofs.Assertions.Trees.{tree-same}
 use Rattle.sf_core.specs.Assertions.Determined.{CanBeTaken, Determined, HasOrder, IsKnown, IsReady, Leaves, all_taken, branches, is_existential, is_in_fields, is_learned, is_learned_in, known_after, known_inside, plain, take}
 use Rattle.sf_base.specs.HeapStore.{Cell, Heap, IsOne, Splits, ◌⋆◌}
 use Rattle.sf_core.specs.Assertions.Occurs.{OccursInAll, OccursInFields, OccursInOne, OccursInTest}
 use Rattle.sf_core.specs.Assertions.Scopes.{is_made_by}
 use Rattle.sf_core.specs.Checked.Assertions.Precise.{IsPrecise}
-use Rattle.sf_core.specs.Assertions.Sat.{Foot, HasFields, IsTrueOf, SameOutside, Sat, SatAll, SatOne, Seg, operand}
-use Rattle.sf_core.specs.Program.Syntax.{Conjunct, holds, points, segment, tree, choose, Level, level, Conjuncts, none, also}
+use Rattle.sf_core.specs.Assertions.Sat.{Dseg, Foot, HasFields, IsTrueOf, operand, SameOutside, Sat, SatAll, SatOne, Seg}
+use Rattle.sf_core.specs.Program.Syntax.{Conjunct, holds, points, segment, doubly, tree, choose, Level, level, Conjuncts, none, also}
 
 -- Two choices of values for the existentials
 module _ {E : Type 0} (v : E → Value) where
@@ -90,6 +91,13 @@ module _ {E : Type 0} (v : E → Value) where
       }
   ready-same known (segment p next x y) s t h g k q r i a m n d e = record {
     heaps = seg-same d (subst (λ z. Seg next z (operand v t x) k) (sym (known-same known s t y a i.1)) e)
+        (known-same known s t x a i.0) m n;
+    learned = λ n i. absurd (true≢false (sym i));
+  }
+  ready-same known (doubly p next back x b l y) s t h g k q r i a m n d e = record {
+    heaps = dseg-same d
+        (subst (λ z. Dseg next back (operand v t l) z (operand v t b) (operand v t x) k)
+        (sym (known-same known s t y a i.3)) e)
         (known-same known s t x a i.0) m n;
     learned = λ n i. absurd (true≢false (sym i));
   }
@@ -189,6 +197,10 @@ module _ {E : Type 0} (v : E → Value) where
       either o (λ e. inl (exists-known known n x e i)) (λ j. inr (exists-field n fs j))
   ready-occurs known (segment p next x y) n i o =
       inl (either o (λ e. exists-known known n x e i.0) (λ e. exists-known known n y e i.1))
+  ready-occurs known (doubly p next back x b l y) n i o =
+      inl (either o (λ e. exists-known known n x e i.0)
+      (λ o. either o (λ e. exists-known known n b e i.1)
+      (λ o. either o (λ e. exists-known known n l e i.2) (λ e. exists-known known n y e i.3))))
   ready-occurs known (tree p left right x) n i o = inl (exists-known known n x o i)
   ready-occurs known (choose p b this that) n i o = absurd i
 

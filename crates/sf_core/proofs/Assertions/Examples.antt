@@ -16,7 +16,7 @@ use Rattle.sf_core.specs.declared.command.Expr.{Expr}
 use Rattle.sf_core.proofs.Assertions.Determined.{determined-fixes, determined-precise}
 use Rattle.sf_base.proofs.HeapSplits.{at-other, one-in, one-not_empty, one-same_place, one-single, one-splits, remove_cell, star-drop_right, star-empty_right, star-map_right, star-of}
 use Rattle.sf_base.proofs.MapSplits.{empty_map, empty-holds, splits-empty_right, splits-has_right, splits-lacks_right, splits-of_empty_right}
-use Rattle.sf_core.proofs.Assertions.Sat.{value-which}
+use Rattle.sf_core.proofs.Assertions.Values.{value-which}
 use Rattle.sf_core.proofs.Assertions.Segments.{loc-same, nil-not_loc, seg-first, seg-one}
 use Rattle.sf_core.specs.Assertions.Determined.{CanBeTaken, Determined, HasOrder, IsReady, Leaves, all_taken, branches, known_after, plain, take}
 use Rattle.sf_base.specs.HeapStore.{Cell, Heap, IsOne, Splits, ◌⋆◌}

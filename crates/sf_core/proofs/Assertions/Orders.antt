@@ -10,7 +10,7 @@ use Rattle.sf_core.specs.declared.assertion.Scope.{Scope}
 use Rattle.sf_core.specs.declared.assertion.Test.TheVariants.{True, Equal, Differ}
 use Rattle.sf_core.specs.Assertions.Determined.{CanBeTaken, HasOrder, IsKnown, IsReady, Leaves, all_taken, branches, is_learned, known_after, known_inside, plain, take}
 use Rattle.sf_core.specs.Assertions.Scopes.{is_made_by}
-use Rattle.sf_core.specs.Program.Syntax.{Conjunct, holds, points, segment, tree, choose, Conjuncts, none, also}
+use Rattle.sf_core.specs.Program.Syntax.{Conjunct, holds, points, segment, doubly, tree, choose, Conjuncts, none, also}
 
 -- whatever the first knows, the second knows
 abbrev pub KnowsMore : (ℕ → Bool) → (ℕ → Bool) → Type 0
@@ -58,6 +58,12 @@ ready-more known more (holds p (Differ x y)) m i =
 ready-more known more (points p x fs) m i = known-more known more x m i
 ready-more known more (segment p next x y) m i =
     (known-more known more x m i.0, known-more known more y m i.1)
+ready-more known more (doubly p next back x b l y) m i = (
+  known-more known more x m i.0,
+  known-more known more b m i.1,
+  known-more known more l m i.2,
+  known-more known more y m i.3,
+)
 ready-more known more (tree p left right x) m i = known-more known more x m i
 ready-more known more (choose p t this that) m i = i
 

@@ -1,13 +1,10 @@
 -- What satisfaction depends on, how it is decided, and that what satisfies is finite.
 -- Names: `sat-LAW` speaks of whole levels, `test-LAW`, `fields-LAW` and `value-LAW` of their parts.
 use Rattle.std.specs.Prelude.{◌≡◌, ◌≢◌, ◌⊎◌, ℕ, Bool, true, false, cond, List, [], ◌∷◌}
-use Rattle.std.specs.Cmp.{signed_Decides}
-use Rattle.std.proofs.Common.{int_eq, true≢false, sym, ap, ◌∙◌, refl, subst, subst₂, inl, inr}
-use Rattle.std.proofs.lemmas.Bool.{cases_eq}
+use Rattle.std.proofs.Common.{sym, ap, ◌∙◌, refl, subst, subst₂, inl, inr}
 use Rattle.sf_base.specs.declared.ids.FieldId.{FieldId}
 use Rattle.sf_base.specs.declared.ids.Var.{Var}
 use Rattle.sf_base.specs.declared.value.Value.{Value}
-use Rattle.sf_base.specs.declared.value.Value.TheVariants.{Nil as nil, Int as int, Loc as loc}
 use Rattle.sf_core.specs.declared.assertion.Operand.{Operand}
 use Rattle.sf_core.specs.declared.assertion.Operand.TheVariants.{Known, Exists}
 use Rattle.sf_core.specs.declared.assertion.Scope.{Scope}
@@ -18,33 +15,15 @@ use Rattle.sf_core.specs.declared.command.Expr.TheVariants.{Var as Variable, Nil
 use Rattle.sf_core.proofs.Assertions.Finite.{finite-empty, finite-one, finite-splits}
 use Rattle.sf_base.proofs.HeapSplits.{star-map}
 use Rattle.sf_core.proofs.Assertions.Segments.{seg-finite}
+use Rattle.sf_core.proofs.Assertions.DoubleSegments.{dseg-agree, dseg-finite}
 use Rattle.sf_core.proofs.Assertions.Trees.{tree-finite}
+use Rattle.sf_core.proofs.Assertions.Values.{value-which}
 use Rattle.sf_base.specs.HeapStore.{Cell, Heap}
 use Rattle.sf_core.specs.Assertions.Occurs.{IsFromOutside, OccursIn, OccursInAll, OccursInFields, OccursInOne, OccursInTest, VarOccursIn}
 use Rattle.sf_core.specs.Assertions.Scopes.{is_made_by}
 use Rattle.sf_core.specs.Assertions.Sat.{HasFields, IsTrueOf, SameOutside, Sat, SatAll, SatOne, Seg, Tree, operand, value}
 use Rattle.sf_core.specs.Checked.Assertions.Shape.{IsFinite}
-use Rattle.sf_core.specs.Program.Syntax.{Conjunct, holds, points, segment, tree, choose, Level, level, Conjuncts, none, also}
-
--- two values are the same or differ
-pub value-which : (v w : Value) → (v ≡ w) ⊎ (v ≢ w)
-value-which nil nil = inl refl
-value-which nil (int j) = inr (λ (e : nil ≡ int j). cc)
-value-which nil (loc b) = inr (λ (e : nil ≡ loc b). cc)
-value-which (int i) nil = inr (λ (e : int i ≡ nil). cc)
-value-which (int i) (int j) = go (int_eq i j) refl
-  where
-    go : (t : Bool) → int_eq i j ≡ t → (int i ≡ int j) ⊎ (int i ≢ int j)
-    go true e = inl (ap int ((signed_Decides i j).0 e))
-    go false e = inr (λ (s : int i ≡ int j). true≢false (sym ((signed_Decides i j).1 cc) ∙ e))
-value-which (int i) (loc b) = inr (λ (e : int i ≡ loc b). cc)
-value-which (loc a) nil = inr (λ (e : loc a ≡ nil). cc)
-value-which (loc a) (int j) = inr (λ (e : loc a ≡ int j). cc)
-value-which (loc a) (loc b) = go (cases_eq a b)
-  where
-    go : (a ≡ b) ⊎ (a ≢ b) → (loc a ≡ loc b) ⊎ (loc a ≢ loc b)
-    go (inl e) = inl (ap loc e)
-    go (inr n) = inr (λ (s : loc a ≡ loc b). n cc)
+use Rattle.sf_core.specs.Program.Syntax.{Conjunct, holds, points, segment, doubly, tree, choose, Level, level, Conjuncts, none, also}
 
 -- Tests and fields of anything that has a value
 module _ {X : Type 0} where
@@ -126,6 +105,9 @@ module _ {E : Type 0} where
     )
     sat-one_agree (segment p next x y) v w s t heap e d =
         subst₂ (λ a b. Seg next a b heap) (e y (inr refl)) (e x (inl refl)) d
+    sat-one_agree (doubly p next back x b l y) v w s t heap e d =
+        dseg-agree (e x (inl refl)) (e b (inr (inl refl))) (e l (inr (inr (inl refl))))
+        (e y (inr (inr (inr refl)))) d
     sat-one_agree (tree p left right x) v w s t heap e d = subst (λ a. Tree left right a heap) (e x refl) d
     sat-one_agree (choose p b this that) v w s t heap e d = (
       λ i. sat-agree this v w s t heap (λ x j. e x (inr (inl j)))
@@ -166,6 +148,7 @@ module _ {E : Type 0} (val : E → Value) where
     sat-one_finite (holds p t) some heap d = finite-empty d.0
     sat-one_finite (points p x fs) some heap d = finite-one d.3
     sat-one_finite (segment p next x y) some heap d = seg-finite d
+    sat-one_finite (doubly p next back x b l y) some heap d = dseg-finite d
     sat-one_finite (tree p left right x) some heap d = tree-finite d
     sat-one_finite (choose p t this that) some heap d =
         elim (test-which (operand val some) t)

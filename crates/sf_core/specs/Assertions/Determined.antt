@@ -10,7 +10,7 @@ use Rattle.sf_core.specs.declared.assertion.Test.{Test}
 use Rattle.sf_core.specs.declared.assertion.Test.TheVariants.{True, Equal, Differ}
 use Rattle.sf_core.specs.Assertions.Occurs.{OccursInOne}
 use Rattle.sf_core.specs.Assertions.Scopes.{is_made_by}
-use Rattle.sf_core.specs.Program.Syntax.{Conjunct, holds, points, segment, tree, choose, Level, level, Conjuncts, none, also}
+use Rattle.sf_core.specs.Program.Syntax.{Conjunct, holds, points, segment, doubly, tree, choose, Level, level, Conjuncts, none, also}
 
 -- the operand has a known value: it is no existential, or one that is known
 abbrev pub IsKnown : {E : Type 0} → (ℕ → Bool) → Operand E → Type 0
@@ -49,13 +49,15 @@ known_inside made known n = known n && not (is_made_by made n)
 
 -- a conjunct without branches can be taken: of an equality one side is known, the other being known too or an
 -- existential;
--- of a difference and a segment both sides are, of a tree its root, of a cell its location
+-- of a difference and a segment both sides are, of a doubly linked one all four, of a tree its root, of a cell
+-- its location
 abbrev pub IsReady : {E : Type 0} → (ℕ → Bool) → Conjunct E → Type 0
 IsReady known (holds p True) = Unit {0}
 IsReady known (holds p (Equal x y)) = IsKnown known x ⊎ IsKnown known y
 IsReady known (holds p (Differ x y)) = IsKnown known x × IsKnown known y
 IsReady known (points p x fs) = IsKnown known x
 IsReady known (segment p next x y) = IsKnown known x × IsKnown known y
+IsReady known (doubly p next back x b l y) = IsKnown known x × IsKnown known b × IsKnown known l × IsKnown known y
 IsReady known (tree p left right x) = IsKnown known x
 IsReady known (choose p t this that) = ⊥
 

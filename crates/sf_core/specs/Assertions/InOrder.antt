@@ -6,7 +6,7 @@ use Rattle.sf_core.specs.declared.assertion.Operand.TheVariants.{Known, Exists}
 use Rattle.sf_core.specs.declared.assertion.Test.TheVariants.{True, Equal, Differ}
 use Rattle.sf_core.specs.Assertions.Determined.{IsKnown, known_after, known_inside}
 use Rattle.sf_core.specs.Assertions.Occurs.{OccursInOne}
-use Rattle.sf_core.specs.Program.Syntax.{Conjunct, holds, points, segment, tree, choose, Level, level, Conjuncts, none, also}
+use Rattle.sf_core.specs.Program.Syntax.{Conjunct, holds, points, segment, doubly, tree, choose, Level, level, Conjuncts, none, also}
 
 -- whether the operand has a known value
 abbrev pub is_known : {E : Type 0} → (ℕ → Bool) → Operand E → Bool
@@ -31,6 +31,8 @@ abbrev mutual
   IsNext known (holds p (Differ x y)) = IsKnown known x × IsKnown known y
   IsNext known (points p x fs) = IsKnown known x
   IsNext known (segment p next x y) = IsKnown known x × IsKnown known y
+  IsNext known (doubly p next back x b l y) = IsKnown known x × IsKnown known b × IsKnown known l
+      × IsKnown known y
   IsNext known (tree p left right x) = IsKnown known x
   IsNext known (choose p t this that) = IsSupplied known (choose p t this that) × InOrderInside known this
       × InOrderInside known that

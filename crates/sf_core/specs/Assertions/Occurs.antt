@@ -12,7 +12,7 @@ use Rattle.sf_core.specs.declared.command.Expr.{Expr}
 use Rattle.sf_core.specs.declared.command.Expr.TheVariants.{Var as Variable}
 use Rattle.sf_core.specs.declared.command.Occurrence.{Occurrence}
 use Rattle.sf_core.specs.Assertions.Scopes.{is_made_by}
-use Rattle.sf_core.specs.Program.Syntax.{Conjunct, holds, points, segment, tree, choose, Level, level, Conjuncts, none, also}
+use Rattle.sf_core.specs.Program.Syntax.{Conjunct, holds, points, segment, doubly, tree, choose, Level, level, Conjuncts, none, also}
 
 -- the operand is no existential that this scope makes
 abbrev pub IsFromOutside : {E : Type 0} → Scope → Operand E → Type 0
@@ -46,6 +46,7 @@ abbrev mutual
   OccursInOne (holds p t) x = OccursInTest t x
   OccursInOne (points p y fs) x = (x ≡ y) ⊎ OccursInFields fs x
   OccursInOne (segment p next y z) x = (x ≡ y) ⊎ (x ≡ z)
+  OccursInOne (doubly p next back y b l z) x = (x ≡ y) ⊎ ((x ≡ b) ⊎ ((x ≡ l) ⊎ (x ≡ z)))
   OccursInOne (tree p left right y) x = x ≡ y
   OccursInOne (choose p t this that) x = OccursInTest t x ⊎ (OccursIn this x ⊎ OccursIn that x)
 

@@ -14,7 +14,7 @@ use Rattle.sf_core.specs.declared.command.Expr.{Expr}
 use Rattle.sf_core.specs.declared.command.Expr.TheVariants.{Var as Variable, Nil, Int}
 use Rattle.sf_base.specs.HeapStore.{Cell, Heap, IsEmpty, IsOne, Splits, ◌⋆◌}
 use Rattle.sf_core.specs.Assertions.Scopes.{is_made_by}
-use Rattle.sf_core.specs.Program.Syntax.{Conjunct, holds, points, segment, tree, choose, Level, level, Conjuncts, none, also}
+use Rattle.sf_core.specs.Program.Syntax.{Conjunct, holds, points, segment, doubly, tree, choose, Level, level, Conjuncts, none, also}
 
 -- the value of an expression, for given values of the variables
 abbrev pub value : (Var → Value) → Expr → Value
@@ -46,6 +46,16 @@ pub data Seg (next : FieldId) (to : Value) : Value → Heap → Type 0 where
       → from ≡ loc location → IsOne location here one → Splits heap one rest → Seg next to (here next.0) rest
       → Seg next to from heap
 
+-- a doubly linked segment from a value up to another, along a field and, backwards, a second one: its first
+-- cell leads back to the value before it, each further one to the cell before it, and the last one is at a
+-- value; where there is no cell that is the value before it
+pub data Dseg (next back : FieldId) (last to : Value) : Value → Value → Heap → Type 0 where
+  empty : {before from : Value} {heap : Heap} → from ≡ to → before ≡ last → IsEmpty heap
+      → Dseg next back last to before from heap
+  linked : {before from : Value} {heap : Heap} → from ≢ to → (location : ℕ) (here : Cell) (one rest : Heap)
+      → from ≡ loc location → IsOne location here one → Splits heap one rest → here back.0 ≡ before
+      → Dseg next back last to from (here next.0) rest → Dseg next back last to before from heap
+
 -- a binary tree from a value: nothing at nil, else a cell and, apart from it and from each other, the trees
 -- of its two fields
 pub data Tree (left right : FieldId) : Value → Heap → Type 0 where
@@ -72,13 +82,15 @@ abbrev mutual
   SatAll none val some heap = IsEmpty heap
   SatAll (also c cs) val some heap = (SatOne c val some ⋆ SatAll cs val some) heap
 
-  -- one conjunct holds on the heap: a test on the empty heap, a points-to on one cell, a segment, a tree, or
+  -- one conjunct holds on the heap: a test on the empty heap, a points-to on one cell, segments, a tree, or
   -- the branch that the test chooses
   pub SatOne : {E : Type 0} → Conjunct E → (E → Value) → (ℕ → Value) → Heap → Type 0
   SatOne (holds p t) val some heap = IsEmpty heap × IsTrueOf (operand val some) t
   SatOne (points p x fs) val some heap = (location : ℕ) × (here : Cell) × (operand val some x ≡ loc location)
       × IsOne location here heap × HasFields (operand val some) fs here
   SatOne (segment p next x y) val some heap = Seg next (operand val some y) (operand val some x) heap
+  SatOne (doubly p next back x b l y) val some heap =
+      Dseg next back (operand val some l) (operand val some y) (operand val some b) (operand val some x) heap
   SatOne (tree p left right x) val some heap = Tree left right (operand val some x) heap
   SatOne (choose p t this that) val some heap = (IsTrueOf (operand val some) t → Sat this val some heap)
       × ((IsTrueOf (operand val some) t → ⊥) → Sat that val some heap)

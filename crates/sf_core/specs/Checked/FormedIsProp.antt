@@ -17,10 +17,10 @@ use Rattle.sf_core.specs.declared.command.Expr.{Expr}
 use Rattle.sf_core.specs.declared.command.Expr.TheVariants.{Var as Variable, Nil, Int}
 use Rattle.sf_core.specs.Assertions.Scopes.{overlap}
 use Rattle.sf_core.specs.Program.Init.{HasNoConjunct, IsBare, IsInitAmong, init_name}
-use Rattle.sf_core.specs.Program.Links.{AreLinks, next_name, left_name, right_name}
+use Rattle.sf_core.specs.Program.Links.{AreLinks, next_name, back_name, left_name, right_name}
 use Rattle.sf_core.specs.Program.Formed.{level_scopes, IsInBody, IsSettable, IsParameter, IsOfResource, ExprWithin, TestWithin, OperandWithin, FieldsWithin, LevelWithin, ConjunctsWithin, ConjunctWithin, AnnotationWithin, AssertionWithin, HasCounts, CallWithin, CommandWithin, BlockWithin, ProcedureWithin, IsFormed}
 use Rattle.sf_core.specs.Program.Named.{IsFirstNamed}
-use Rattle.sf_core.specs.Program.Syntax.{Conjunct, holds, points, segment, tree, choose, Level, level, Conjuncts, none, also, Call, Command, assign, look_up, mutate, new, dispose, if, while, call, fork, with, Block, done, then, Assertion, Procedure, Program}
+use Rattle.sf_core.specs.Program.Syntax.{Conjunct, holds, points, segment, doubly, tree, choose, Level, level, Conjuncts, none, also, Call, Command, assign, look_up, mutate, new, dispose, if, while, call, fork, with, Block, done, then, Assertion, Procedure, Program}
 
 -- two proofs of what can't be are the same
 ⊥-prop : IsProp ⊥
@@ -49,6 +49,7 @@ IsFirstNamed-prop names name (Some k) = ×_prop (Coded-set (coded_option (coded_
 pub AreLinks-prop : (fields : List (List ℕ)) (links : Links) → IsProp (AreLinks fields links)
 AreLinks-prop fields links s t = λ i. record {
   next = IsFirstNamed-prop fields next_name _ s.next t.next i;
+  back = IsFirstNamed-prop fields back_name _ s.back t.back i;
   left = IsFirstNamed-prop fields left_name _ s.left t.left i;
   right = IsFirstNamed-prop fields right_name _ s.right t.right i;
 }
@@ -131,6 +132,14 @@ mutual
     IsFirstNamed-prop fields next_name (Some next.0) s.0 t.0 i,
     OperandWithin-prop V v made x s.1 t.1 i,
     OperandWithin-prop V v made y s.2 t.2 i,
+  )
+  ConjunctWithin-prop fields V v made (doubly q next back x b l y) = λ s t i. (
+    IsFirstNamed-prop fields next_name (Some next.0) s.0 t.0 i,
+    IsFirstNamed-prop fields back_name (Some back.0) s.1 t.1 i,
+    OperandWithin-prop V v made x s.2 t.2 i,
+    OperandWithin-prop V v made b s.3 t.3 i,
+    OperandWithin-prop V v made l s.4 t.4 i,
+    OperandWithin-prop V v made y s.5 t.5 i,
   )
   ConjunctWithin-prop fields V v made (tree q left right x) = λ s t i. (
     IsFirstNamed-prop fields left_name (Some left.0) s.0 t.0 i,

@@ -15,9 +15,9 @@ use Rattle.sf_core.specs.declared.command.Expr.{Expr}
 use Rattle.sf_core.specs.declared.command.Expr.TheVariants.{Var as Variable, Nil, Int}
 use Rattle.sf_core.specs.Assertions.Scopes.{is_made_by, overlap}
 use Rattle.sf_core.specs.Program.Init.{IsBare, is_init, sets_up}
-use Rattle.sf_core.specs.Program.Links.{next_name, left_name, right_name}
+use Rattle.sf_core.specs.Program.Links.{next_name, back_name, left_name, right_name}
 use Rattle.sf_core.specs.Program.Named.{IsFirstNamed}
-use Rattle.sf_core.specs.Program.Syntax.{Conjunct, holds, points, segment, tree, choose, Level, level, Conjuncts, none, also, Call, Command, assign, look_up, mutate, new, dispose, if, while, call, fork, with, Block, done, then, Assertion, Procedure, Resource, Program}
+use Rattle.sf_core.specs.Program.Syntax.{Conjunct, holds, points, segment, doubly, tree, choose, Level, level, Conjuncts, none, also, Call, Command, assign, look_up, mutate, new, dispose, if, while, call, fork, with, Block, done, then, Assertion, Procedure, Resource, Program}
 
 -- how many variables a resource has: none where there is no such resource
 abbrev pub variable_count : Option Resource → ℕ
@@ -92,6 +92,9 @@ abbrev mutual
       × FieldsWithin fields (OperandWithin V made) fs
   ConjunctWithin fields V made (segment q next x y) =
       IsFirstNamed fields next_name (Some next.0) × OperandWithin V made x × OperandWithin V made y
+  ConjunctWithin fields V made (doubly q next back x b l y) =
+      IsFirstNamed fields next_name (Some next.0) × IsFirstNamed fields back_name (Some back.0)
+      × OperandWithin V made x × OperandWithin V made b × OperandWithin V made l × OperandWithin V made y
   ConjunctWithin fields V made (tree q left right x) =
       IsFirstNamed fields left_name (Some left.0) × IsFirstNamed fields right_name (Some right.0)
       × OperandWithin V made x
@@ -114,6 +117,7 @@ abbrev mutual
   conjunct_scopes (holds q t) rest = rest
   conjunct_scopes (points q x fs) rest = rest
   conjunct_scopes (segment q next x y) rest = rest
+  conjunct_scopes (doubly q next back x b l y) rest = rest
   conjunct_scopes (tree q left right x) rest = rest
   conjunct_scopes (choose q t this that) rest = level_scopes this (level_scopes that rest)
 
@@ -133,6 +137,7 @@ abbrev mutual
   conjunct_depth (holds q t) = 0
   conjunct_depth (points q x fs) = 0
   conjunct_depth (segment q next x y) = 0
+  conjunct_depth (doubly q next back x b l y) = 0
   conjunct_depth (tree q left right x) = 0
   conjunct_depth (choose q t this that) = max (level_depth this) (level_depth that)
 

@@ -10,7 +10,7 @@ use Rattle.sf_core.specs.declared.assertion.Test.TheVariants.{True, Equal, Diffe
 use Rattle.sf_core.specs.declared.command.Expr.{Expr}
 use Rattle.sf_core.specs.declared.command.Expr.TheVariants.{Var as Variable, Nil, Int}
 use Rattle.sf_core.specs.declared.command.Occurrence.{Occurrence}
-use Rattle.sf_core.specs.Program.Syntax.{Assertion, Conjunct, holds, points, segment, tree, choose, Level, level, Conjuncts, none, also, Call, Command, assign, look_up, mutate, new, dispose, if, while, call, fork, with, Block, done, then}
+use Rattle.sf_core.specs.Program.Syntax.{Assertion, Conjunct, holds, points, segment, doubly, tree, choose, Level, level, Conjuncts, none, also, Call, Command, assign, look_up, mutate, new, dispose, if, while, call, fork, with, Block, done, then}
 
 -- the variables that occur in an expression, with their places
 abbrev pub expr_occurrences : Expr → List Occurrence
@@ -46,6 +46,9 @@ abbrev mutual
   conjunct_occurrences (points q root fs) =
       operand_occurrences root ++ flat_map (λ f. operand_occurrences f.1) fs
   conjunct_occurrences (segment q next from to) = operand_occurrences from ++ operand_occurrences to
+  conjunct_occurrences (doubly q next back from before last to) =
+      operand_occurrences from
+      ++ (operand_occurrences before ++ (operand_occurrences last ++ operand_occurrences to))
   conjunct_occurrences (tree q left right root) = operand_occurrences root
   conjunct_occurrences (choose q t this that) =
       test_occurrences operand_occurrences t ++ (level_occurrences this ++ level_occurrences that)

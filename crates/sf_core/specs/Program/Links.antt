@@ -10,6 +10,10 @@ use Rattle.sf_core.specs.Program.Named.{IsFirstNamed}
 abbrev pub next_name : List ℕ
 next_name = codes "tl"
 
+-- the field by which doubly linked segments lead back
+abbrev pub back_name : List ℕ
+back_name = codes "pv"
+
 -- the left field of a tree
 abbrev pub left_name : List ℕ
 left_name = codes "l"
@@ -25,5 +29,6 @@ IsFieldNamed fields name field = IsFirstNamed fields name (option_map (λ f. f.0
 -- these are the links of a file with these fields
 pub record AreLinks (fields : List (List ℕ)) (links : Links) : Type 0 where
   pub next : IsFieldNamed fields next_name links.tl
+  pub back : IsFieldNamed fields back_name links.pv
   pub left : IsFieldNamed fields left_name links.l
   pub right : IsFieldNamed fields right_name links.r

@@ -12,12 +12,13 @@ use Rattle.sf_core.specs.declared.command.Expr.{Expr}
 use Rattle.sf_core.specs.declared.command.Occurrence.{Occurrence}
 
 mutual
-  -- one conjunct over operands E: a test, a cell, a segment along a field, a tree along two fields, or a
-  -- choice of two levels
+  -- one conjunct over operands E: a test, a cell, a segment along a field, a doubly linked segment along a
+  -- field and one that leads back, a tree along two fields, or a choice of two levels
   pub data Conjunct (E : Type 0) : Type 0 where
     holds : Place → Test (Operand E) → Conjunct E
     points : Place → Operand E → List (FieldId × Operand E) → Conjunct E
     segment : Place → FieldId → (from to : Operand E) → Conjunct E
+    doubly : Place → (next back : FieldId) → (from before last to : Operand E) → Conjunct E
     tree : Place → (left right : FieldId) → Operand E → Conjunct E
     choose : Place → Test (Operand E) → (then otherwise : Level E) → Conjunct E
 

@@ -4,7 +4,7 @@ use Rattle.std.specs.Prelude.{ℕ, List, [], ◌∷◌, map}
 use Rattle.sf_core.specs.declared.assertion.Assertion.{Assertion as CodeAssertion}
 use Rattle.sf_core.specs.declared.assertion.Conjunct.{Conjunct as CodeConjunct}
 use Rattle.sf_core.specs.declared.assertion.Conjunct.TheFolds.{fold-Conjunct, fold-Level}
-use Rattle.sf_core.specs.declared.assertion.Conjunct.TheOpen.{Conjunct-F, Level-F, Holds, Points, Segment, Tree, If}
+use Rattle.sf_core.specs.declared.assertion.Conjunct.TheOpen.{Conjunct-F, Level-F, Holds, Points, Segment, Doubly, Tree, If}
 use Rattle.sf_core.specs.declared.assertion.Level.{Level as CodeLevel}
 use Rattle.sf_core.specs.declared.command.Call.{Call as CodeCall}
 use Rattle.sf_core.specs.declared.command.Command.{Command as CodeCommand}
@@ -12,7 +12,7 @@ use Rattle.sf_core.specs.declared.command.Command.TheFolds.{fold-Command}
 use Rattle.sf_core.specs.declared.command.Command.TheOpen.{Command-F, Assign, LookUp, Mutate, New, Dispose, If as Cond, While, Call as CallOne, Fork, With}
 use Rattle.sf_core.specs.declared.program.Proc.{Proc}
 use Rattle.sf_core.specs.declared.program.Resource.{Resource as CodeResource}
-use Rattle.sf_core.specs.Program.Syntax.{Conjunct, holds, points, segment, tree, choose, Level, level, Conjuncts, none, also, Call, Command, assign, look_up, mutate, new, dispose, if, while, call, fork, with, Block, done, then, Assertion, Procedure, Resource, Program}
+use Rattle.sf_core.specs.Program.Syntax.{Conjunct, holds, points, segment, doubly, tree, choose, Level, level, Conjuncts, none, also, Call, Command, assign, look_up, mutate, new, dispose, if, while, call, fork, with, Block, done, then, Assertion, Procedure, Resource, Program}
 
 -- a list as conjuncts
 abbrev pub conjuncts : {E : Type 0} → List (Conjunct E) → Conjuncts E
@@ -24,6 +24,7 @@ abbrev pub conjunct_step : {E : Type 0} → Conjunct-F E (Conjunct E) (Level E) 
 conjunct_step (Holds p t) = holds p t
 conjunct_step (Points p x fs) = points p x fs.items
 conjunct_step (Segment p f x y) = segment p f x y
+conjunct_step (Doubly p f g x b y z) = doubly p f g x b y z
 conjunct_step (Tree p l r x) = tree p l r x
 conjunct_step (If p t x y) = choose p t x y
 

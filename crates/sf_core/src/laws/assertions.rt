@@ -1,6 +1,6 @@
 //! Laws of heaps and assertions. Each function does nothing; its contract is the law.
 
-ghost use Rattle.sf_core.specs.Checked.Assertions.Laws.{UnionIsCommutative, UnionIsAssociative, UnionCancels, PointsToHasExactlyOneCell, SegmentHasNoCellAtItsEnd, SegmentsCompose, TreeIsFiniteAndAcyclic, SegmentsAndTreesArePrecise, SatSpeaksOfOccurringVariables, DeterminedHasOneFootprint, OrderedConjunctsArePrecise, EachExistentialBecomesKnown, AnyReadyConjunctMayComeFirst, TreeSharesNothing, SatisfyingHeapsAreFinite};
+ghost use Rattle.sf_core.specs.Checked.Assertions.Laws.{UnionIsCommutative, UnionIsAssociative, UnionCancels, PointsToHasExactlyOneCell, SegmentHasNoCellAtItsEnd, SegmentsCompose, DoublyLinkedSegmentHasNoCellAtItsEnd, DoublyLinkedSegmentMayBeEmpty, DoublyLinkedSegmentsCompose, DoublyLinkedSegmentEndsInItsLastCell, DoublyLinkedSegmentGrowsAtItsEnd, TreeIsFiniteAndAcyclic, SegmentsAndTreesArePrecise, SatSpeaksOfOccurringVariables, DeterminedHasOneFootprint, OrderedConjunctsArePrecise, EachExistentialBecomesKnown, AnyReadyConjunctMayComeFirst, TreeSharesNothing, SatisfyingHeapsAreFinite};
 
 /// The two parts of a heap may be exchanged.
 #[tactic(auto, using(crate::proofs::Assertions::Laws::union_of_heaps_is_commutative))]
@@ -38,6 +38,37 @@ pub fn segments_compose()
     ensures { SegmentsCompose }
 {}
 
+/// A doubly linked segment never has a cell at its end.
+#[tactic(auto, using(crate::proofs::Assertions::Laws::doubly_linked_segment_has_no_cell_at_its_end))]
+pub fn doubly_linked_segment_has_no_cell_at_its_end()
+    ensures { DoublyLinkedSegmentHasNoCellAtItsEnd }
+{}
+
+/// A doubly linked segment that ends where it begins has no cell, and is one only where its last cell
+/// is what stands before it.
+#[tactic(auto, using(crate::proofs::Assertions::Laws::doubly_linked_segment_may_be_empty))]
+pub fn doubly_linked_segment_may_be_empty()
+    ensures { DoublyLinkedSegmentMayBeEmpty }
+{}
+
+/// Two doubly linked segments are one, where the first has no cell at the end of the second.
+#[tactic(auto, using(crate::proofs::Assertions::Laws::doubly_linked_segments_compose))]
+pub fn doubly_linked_segments_compose()
+    ensures { DoublyLinkedSegmentsCompose }
+{}
+
+/// A doubly linked segment that has a cell is one up to its last cell, and that cell.
+#[tactic(auto, using(crate::proofs::Assertions::Laws::doubly_linked_segment_ends_in_its_last_cell))]
+pub fn doubly_linked_segment_ends_in_its_last_cell()
+    ensures { DoublyLinkedSegmentEndsInItsLastCell }
+{}
+
+/// A doubly linked segment and one more cell at its end are one.
+#[tactic(auto, using(crate::proofs::Assertions::Laws::doubly_linked_segment_grows_at_its_end))]
+pub fn doubly_linked_segment_grows_at_its_end()
+    ensures { DoublyLinkedSegmentGrowsAtItsEnd }
+{}
+
 /// A tree's heap is finite and has no cycle.
 #[tactic(auto, using(crate::proofs::Assertions::Laws::tree_is_finite_and_acyclic))]
 pub fn tree_is_finite_and_acyclic()
@@ -56,7 +87,7 @@ pub fn satisfying_heaps_are_finite()
     ensures { SatisfyingHeapsAreFinite }
 {}
 
-/// Of each heap at most one part is a given segment, or a given tree.
+/// Of each heap at most one part is a given segment, doubly linked or not, or a given tree.
 #[tactic(auto, using(crate::proofs::Assertions::Laws::segments_and_trees_are_precise))]
 pub fn segments_and_trees_are_precise()
     ensures { SegmentsAndTreesArePrecise }

@@ -1,5 +1,5 @@
 -- What an assertion without faults elaborates to mentions only what may be named there.
-use Rattle.std.proofs.Common.{◌≡◌, ◌≤◌, ℕ, not, List, [], ◌∷◌, length, Option, Some, None, refl, sym, subst, arith}
+use Rattle.std.proofs.Common.{◌≡◌, ◌≤◌, ℕ, not, List, [], ◌∷◌, length, ◌++◌, Option, Some, None, refl, sym, subst, arith}
 use Rattle.sf_base.proofs.Options.{unwrap-some}
 use Rattle.sf_ast.specs.Depth as d
 use Rattle.sf_ast.specs.Surface as s
@@ -13,9 +13,9 @@ use Rattle.sf_core.specs.Program.Named.{IsFirstNamed}
 use Rattle.sf_core.specs.Program.View.{conjuncts}
 use Rattle.sf_elab.specs.declared.fault.Fault.TheVariants.{Missing}
 use Rattle.sf_elab.specs.declared.fault.Link.{Link}
-use Rattle.sf_elab.specs.declared.fault.Link.TheVariants.{Next, Left, Right}
+use Rattle.sf_elab.specs.declared.fault.Link.TheVariants.{Next, Back, Left, Right}
 use Rattle.sf_elab.specs.declared.levels.Levels.{Levels}
-use Rattle.sf_elab.specs.Annotations.Assertions.{operand_faults, values_faults, link_of, has_link, segment_faults, tree_faults, conjunct_of, conjuncts_of, level_of, conjunct_faults, level_faults, annotation_of, annotation_faults, maybe_of, maybe_faults}
+use Rattle.sf_elab.specs.Annotations.Assertions.{operand_faults, values_faults, link_of, has_link, segment_faults, doubly_faults, four_faults, tree_faults, conjunct_of, conjuncts_of, level_of, conjunct_faults, level_faults, annotation_of, annotation_faults, maybe_of, maybe_faults}
 use Rattle.sf_elab.specs.Annotations.Existentials.{no_levels, opened, made_by, taking, names_after, names_after_level}
 use Rattle.sf_elab.specs.Annotations.Flat.{words_in_operand, words_in_fields, words_in_flat, words_in}
 use Rattle.sf_elab.specs.Annotations.Flat as f
@@ -49,6 +49,22 @@ mutual
       let all = none_three (segment_faults i p) (operand_faults i x) (operand_faults i y) h in
       let words = reached_both i.bytes l.reach (words_in_operand x) (words_in_operand y) r in
       (link_named see Next p all.0, operand_within see made l m x words.0 all.1, operand_within see made l m y words.1 all.2)
+  conjunct_within {i = i} see made l m (f.doubly p x b e y) r h =
+      let both = none_both (doubly_faults i p) (four_faults i x b e y) h in
+      let links = none_both (where_ (not (has_link i Next)) (Missing p Next)) (where_ (not (has_link i Back)) (Missing p Back)) both.0 in
+      let first = none_both (operand_faults i x) (operand_faults i b ++ (operand_faults i e ++ operand_faults i y)) both.1 in
+      let second = none_both (operand_faults i b) (operand_faults i e ++ operand_faults i y) first.1 in
+      let third = none_both (operand_faults i e) (operand_faults i y) second.1 in
+      let one = reached_both i.bytes l.reach (words_in_operand x) (words_in_operand b ++ (words_in_operand e ++ words_in_operand y)) r in
+      let two = reached_both i.bytes l.reach (words_in_operand b) (words_in_operand e ++ words_in_operand y) one.1 in
+      let three = reached_both i.bytes l.reach (words_in_operand e) (words_in_operand y) two.1 in (
+        link_named see Next p links.0,
+        link_named see Back p links.1,
+        operand_within see made l m x one.0 first.0,
+        operand_within see made l m b two.0 second.0,
+        operand_within see made l m e three.0 third.0,
+        operand_within see made l m y three.1 third.1,
+      )
   conjunct_within {i = i} see made l m (f.tree p x) r h =
       let both = none_both (tree_faults i p) (operand_faults i x) h in
       let links = none_both (where_ (not (has_link i Left)) (Missing p Left)) (where_ (not (has_link i Right)) (Missing p Right)) both.0 in

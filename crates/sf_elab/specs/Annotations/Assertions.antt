@@ -15,10 +15,10 @@ use Rattle.sf_core.specs.Program.View.{conjuncts}
 use Rattle.sf_elab.specs.declared.fault.Fault.{Fault}
 use Rattle.sf_elab.specs.declared.fault.Fault.TheVariants.{Twice, Missing}
 use Rattle.sf_elab.specs.declared.fault.Link.{Link}
-use Rattle.sf_elab.specs.declared.fault.Link.TheVariants.{Next, Left, Right}
+use Rattle.sf_elab.specs.declared.fault.Link.TheVariants.{Next, Back, Left, Right}
 use Rattle.sf_elab.specs.declared.levels.Levels.{Levels}
 use Rattle.sf_elab.specs.Annotations.Existentials.{no_levels, opened, made_by, taking, names_after, names_after_level}
-use Rattle.sf_elab.specs.Annotations.Flat.{Flat, holds, points, segment, tree, choose, Flats, none, also, level_in}
+use Rattle.sf_elab.specs.Annotations.Flat.{Flat, holds, points, segment, doubly, tree, choose, Flats, none, also, level_in}
 use Rattle.sf_elab.specs.Files.Faults.{where_, link_name}
 use Rattle.sf_elab.specs.Names.InEnv.{Env, expr_of, expr_faults, test_of, test_faults, field_of, field_faults}
 use Rattle.sf_elab.specs.Names.Table.{Table, find, has, declare}
@@ -58,6 +58,15 @@ has_link s k = has (link_name k) s.declared.fields
 abbrev pub segment_faults : Env → Place → List Fault
 segment_faults s p = where_ (not (has_link s Next)) (Missing p Next)
 
+-- a doubly linked segment at that place needs both of its fields; the first that is missing is named
+abbrev pub doubly_faults : Env → Place → List Fault
+doubly_faults s p = where_ (not (has_link s Next)) (Missing p Next) ++ where_ (not (has_link s Back)) (Missing p Back)
+
+-- what is wrong with four operands
+abbrev pub four_faults : Env → (from before last to : SurfaceOperand) → List Fault
+four_faults s x b l y =
+    operand_faults s x ++ (operand_faults s b ++ (operand_faults s l ++ operand_faults s y))
+
 -- a tree at that place needs both of its fields; the first that is missing is named
 abbrev pub tree_faults : Env → Place → List Fault
 tree_faults s p = where_ (not (has_link s Left)) (Missing p Left) ++ where_ (not (has_link s Right)) (Missing p Right)
@@ -72,6 +81,8 @@ abbrev mutual
   conjunct_of s l (holds p t) = c.holds p (test_of (operand_of s l) t)
   conjunct_of s l (points p x fs) = c.points p (operand_of s l x) (values_of s l fs)
   conjunct_of s l (segment p x y) = c.segment p (link_of s Next) (operand_of s l x) (operand_of s l y)
+  conjunct_of s l (doubly p x b e y) =
+      c.doubly p (link_of s Next) (link_of s Back) (operand_of s l x) (operand_of s l b) (operand_of s l e) (operand_of s l y)
   conjunct_of s l (tree p x) = c.tree p (link_of s Left) (link_of s Right) (operand_of s l x)
   conjunct_of s l (choose p t a b) =
       let m = taking l (names_after_level s.bytes l a) in
@@ -92,6 +103,7 @@ abbrev mutual
   conjunct_faults s (holds p t) = test_faults (operand_faults s) t
   conjunct_faults s (points p x fs) = operand_faults s x ++ values_faults s [] fs
   conjunct_faults s (segment p x y) = segment_faults s p ++ operand_faults s x ++ operand_faults s y
+  conjunct_faults s (doubly p x b l y) = doubly_faults s p ++ four_faults s x b l y
   conjunct_faults s (tree p x) = tree_faults s p ++ operand_faults s x
   conjunct_faults s (choose p t a b) = test_faults (operand_faults s) t ++ level_faults s a ++ level_faults s b
 

@@ -23,6 +23,7 @@ mutual
     holds : Place → SurfaceTest SurfaceOperand → Flat
     points : Place → SurfaceOperand → List SurfaceField → Flat
     segment : Place → (from to : SurfaceOperand) → Flat
+    doubly : Place → (from before last to : SurfaceOperand) → Flat
     tree : Place → SurfaceOperand → Flat
     choose : Place → SurfaceTest SurfaceOperand → (then otherwise : Flats) → Flat
 
@@ -52,6 +53,7 @@ abbrev mutual
   flat (s.points x fs) = points (operand_place x) x fs ∷ []
   flat (s.ls p k x y) = segment p x y ∷ []
   flat (s.list p x) = segment p x (Known (Nil p)) ∷ []
+  flat (s.dll p x b l y) = doubly p x b l y ∷ []
   flat (s.tree p x) = tree p x ∷ []
 
   -- one after the other
@@ -84,6 +86,8 @@ abbrev pub words_in_flat : Flat → List Word
 words_in_flat (holds p t) = words_in_test t
 words_in_flat (points p x fs) = words_in_operand x ++ words_in_fields fs
 words_in_flat (segment p x y) = words_in_operand x ++ words_in_operand y
+words_in_flat (doubly p x b l y) =
+    words_in_operand x ++ (words_in_operand b ++ (words_in_operand l ++ words_in_operand y))
 words_in_flat (tree p x) = words_in_operand x
 words_in_flat (choose p t a b) = words_in_test t
 
@@ -97,6 +101,7 @@ abbrev pub flat_step : Flat-F Flat → Flat
 flat_step (f.Test p t) = holds p t
 flat_step (f.Points p x fs) = points p x fs.items
 flat_step (f.Segment p x y) = segment p x y
+flat_step (f.Doubly p x b l y) = doubly p x b l y
 flat_step (f.Tree p x) = tree p x
 flat_step (f.If p t a b) = choose p t (flats a.items) (flats b.items)
 

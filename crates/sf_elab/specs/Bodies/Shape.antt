@@ -6,7 +6,7 @@ use Rattle.sf_base.specs.declared.place.Place.{Place}
 use Rattle.sf_ast.specs.declared.word.Word.{Word}
 use Rattle.sf_core.specs.declared.command.Expr.{Expr}
 use Rattle.sf_core.specs.Program.Init.{init_name}
-use Rattle.sf_core.specs.Program.Syntax.{Conjunct, holds, points, segment, tree, choose, Level, level, Conjuncts, none, also}
+use Rattle.sf_core.specs.Program.Syntax.{Conjunct, holds, points, segment, doubly, tree, choose, Level, level, Conjuncts, none, also}
 use Rattle.sf_elab.specs.declared.fault.Fault.{Fault}
 use Rattle.sf_elab.specs.declared.fault.Fault.TheVariants.{InitShape, InitCalled}
 use Rattle.sf_elab.specs.Files.Faults.{where_}
@@ -21,6 +21,7 @@ abbrev pub conjunct_place : Conjunct Expr → Place
 conjunct_place (holds p t) = p
 conjunct_place (points p x fs) = p
 conjunct_place (segment p next x y) = p
+conjunct_place (doubly p next back x b z y) = p
 conjunct_place (tree p left right x) = p
 conjunct_place (choose p t a b) = p
 

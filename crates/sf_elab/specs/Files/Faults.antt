@@ -4,11 +4,11 @@ use Rattle.std.specs.Prelude.{ℕ, Bool, ◌&&◌, ◌||◌, ◌==◌, nat_lt, i
 use Rattle.sf_base.specs.declared.place.Place.{Place}
 use Rattle.sf_base.specs.First.{is_before}
 use Rattle.sf_core.specs.Program.Init.{init_name}
-use Rattle.sf_core.specs.Program.Links.{next_name, left_name, right_name}
+use Rattle.sf_core.specs.Program.Links.{next_name, back_name, left_name, right_name}
 use Rattle.sf_elab.specs.declared.fault.Fault.{Fault}
 use Rattle.sf_elab.specs.declared.fault.Fault.TheVariants as f
 use Rattle.sf_elab.specs.declared.fault.Link.{Link}
-use Rattle.sf_elab.specs.declared.fault.Link.TheVariants.{Next, Left, Right}
+use Rattle.sf_elab.specs.declared.fault.Link.TheVariants.{Next, Back, Left, Right}
 use Rattle.sf_elab.specs.declared.fault.NameFault.{NameFault}
 use Rattle.sf_elab.specs.declared.fault.NameFault.TheVariants as n
 use Rattle.sf_elab.specs.Names.Texts.{text}
@@ -16,6 +16,7 @@ use Rattle.sf_elab.specs.Names.Texts.{text}
 -- the name of a field that predicates follow
 abbrev pub link_name : Link → List ℕ
 link_name Next = next_name
+link_name Back = back_name
 link_name Left = left_name
 link_name Right = right_name
 

@@ -11,11 +11,11 @@ use Rattle.sf_core.specs.Assertions.InOrder.{InOrder, IsNext}
 use Rattle.sf_core.specs.Assertions.Occurs.{OccursIn, OccursInAll, OccursInOne, OccursInTest}
 use Rattle.sf_core.specs.Assertions.Sat.{HasFields, IsTrueOf, SameOutside, operand}
 use Rattle.sf_core.specs.declared.assertion.Test.{Test}
-use Rattle.sf_core.specs.Program.Syntax.{Conjunct, holds, points, segment, tree, choose, Level, level, Conjuncts, none, also}
+use Rattle.sf_core.specs.Program.Syntax.{Conjunct, holds, points, segment, doubly, tree, choose, Level, level, Conjuncts, none, also}
 use Rattle.sf_heap.specs.Cells.{Cells, FieldValues, cell_of}
 use Rattle.sf_foot.specs.declared.known.Known.{Known}
 use Rattle.sf_foot.specs.Checked.Known.{Agrees, Grows, IsWithin, is_told}
-use Rattle.sf_foot.specs.Checked.Walks.{SegmentWalk, TreesWalk}
+use Rattle.sf_foot.specs.Checked.Walks.{DoubleWalk, SegmentWalk, TreesWalk}
 
 -- the locations that are taken, as a relation
 abbrev mutual
@@ -38,6 +38,8 @@ abbrev mutual
       × HasFields (operand val some) fs (cell_of here) × (ls ≡ location ∷ [])
   OneTakes heap (segment p next x y) val some ls =
       SegmentWalk heap next (operand val some y) (operand val some x) ls
+  OneTakes heap (doubly p next back x b l y) val some ls =
+      DoubleWalk heap next back (operand val some l) (operand val some y) (operand val some b) (operand val some x) ls
   OneTakes heap (tree p left right x) val some ls =
       TreesWalk heap left right (operand val some x ∷ []) ls
   OneTakes heap (choose p t this that) val some ls =

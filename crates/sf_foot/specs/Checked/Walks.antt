@@ -15,6 +15,15 @@ pub data SegmentWalk (heap : Cells) (next : FieldId) (to : Value) : Value → Li
       → SegmentWalk heap next to (slice_index_or here next.0 nil) rest → ls ≡ location ∷ rest
       → SegmentWalk heap next to from ls
 
+-- the walk along a field from a value up to another, whose cells lead back by a second one, each to that before it
+pub data DoubleWalk (heap : Cells) (next back : FieldId) (last to : Value) : Value → Value → List ℕ → Type 0 where
+  empty : {before from : Value} {ls : List ℕ} → from ≡ to → before ≡ last → ls ≡ []
+      → DoubleWalk heap next back last to before from ls
+  linked : {before from : Value} {ls : List ℕ} → from ≢ to → (location : ℕ) (here : FieldValues) (rest : List ℕ)
+      → from ≡ loc location → get heap location ≡ Some here → slice_index_or here back.0 nil ≡ before
+      → DoubleWalk heap next back last to from (slice_index_or here next.0 nil) rest → ls ≡ location ∷ rest
+      → DoubleWalk heap next back last to before from ls
+
 -- the walk through trees, one after the other, each from its root on: first the left field, then the right
 pub data TreesWalk (heap : Cells) (left right : FieldId) : List Value → List ℕ → Type 0 where
   none : {roots : List Value} {ls : List ℕ} → roots ≡ [] → ls ≡ [] → TreesWalk heap left right roots ls

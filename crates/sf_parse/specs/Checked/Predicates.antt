@@ -31,5 +31,6 @@ abbrev pub predicate_of : Leaf → Option Predicate
 predicate_of (k.Emp p) = Some (record { count = 0; conjunct = s.emp p })
 predicate_of (k.Ls p long) = Some (record { count = 2; conjunct = s.ls p long })
 predicate_of (k.List p) = Some (record { count = 1; conjunct = s.list p })
+predicate_of (k.Dll p) = Some (record { count = 4; conjunct = s.dll p })
 predicate_of (k.Tree p) = Some (record { count = 1; conjunct = s.tree p })
 predicate_of _ = None

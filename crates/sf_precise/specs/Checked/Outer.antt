@@ -8,7 +8,7 @@ use Rattle.sf_core.specs.declared.assertion.Operand.TheVariants.{Known, Exists}
 use Rattle.sf_core.specs.declared.assertion.Test.{Test}
 use Rattle.sf_core.specs.declared.assertion.Test.TheVariants.{True, Equal, Differ}
 use Rattle.sf_core.specs.Assertions.Scopes.{is_made_by}
-use Rattle.sf_core.specs.Program.Syntax.{Conjunct, holds, points, segment, tree, choose, Level, level, Conjuncts, none, also}
+use Rattle.sf_core.specs.Program.Syntax.{Conjunct, holds, points, segment, doubly, tree, choose, Level, level, Conjuncts, none, also}
 
 -- the existential that the operand is, if it is one
 abbrev pub existential : {E : Type 0} → Operand E → List ℕ
@@ -20,6 +20,11 @@ abbrev pub test_existentials : {E : Type 0} → Test (Operand E) → List ℕ
 test_existentials True = []
 test_existentials (Equal x y) = existential x ++ existential y
 test_existentials (Differ x y) = existential x ++ existential y
+
+-- those of four operands
+abbrev pub of_four : {E : Type 0} → (from before last to : Operand E) → List ℕ
+of_four from before last to =
+    existential from ++ (existential before ++ (existential last ++ existential to))
 
 -- those among the values of fields
 abbrev pub field_existentials : {E : Type 0} → List (FieldId × Operand E) → List ℕ
@@ -42,5 +47,6 @@ abbrev mutual
   outer_of (holds p t) = test_existentials t
   outer_of (points p x fs) = existential x ++ field_existentials fs
   outer_of (segment p next x y) = existential x ++ existential y
+  outer_of (doubly p next back x b z y) = of_four x b z y
   outer_of (tree p left right x) = existential x
   outer_of (choose p t this that) = test_existentials t ++ (outer_of_level this ++ outer_of_level that)

@@ -8,8 +8,8 @@ use Rattle.sf_core.specs.declared.assertion.Scope.{Scope}
 use Rattle.sf_core.specs.declared.assertion.Test.{Test}
 use Rattle.sf_core.specs.declared.assertion.Test.TheVariants.{True, Equal, Differ}
 use Rattle.sf_core.specs.Assertions.Scopes.{is_made_by}
-use Rattle.sf_core.specs.Program.Syntax.{Conjunct, holds, points, segment, tree, choose}
-use Rattle.sf_precise.specs.Checked.Outer.{existential, test_existentials, field_existentials, outer_of}
+use Rattle.sf_core.specs.Program.Syntax.{Conjunct, holds, points, segment, doubly, tree, choose}
+use Rattle.sf_precise.specs.Checked.Outer.{existential, field_existentials, of_four, outer_of, test_existentials}
 
 -- what is known at first: nothing, or what that scope does not make
 abbrev pub known_outside : Option Scope → ℕ → Bool
@@ -30,6 +30,7 @@ abbrev pub rests_on : {E : Type 0} → Conjunct E → List ℕ
 rests_on (holds p t) = test_existentials t
 rests_on (points p x fs) = existential x
 rests_on (segment p next x y) = existential x ++ existential y
+rests_on (doubly p next back x b z y) = of_four x b z y
 rests_on (tree p left right x) = existential x
 rests_on (choose p t this that) = outer_of (choose p t this that)
 
@@ -54,6 +55,7 @@ abbrev pub learned_from : {E : Type 0} → Conjunct E → List ℕ
 learned_from (holds p t) = equated t
 learned_from (points p x fs) = field_existentials fs
 learned_from (segment p next x y) = []
+learned_from (doubly p next back x b z y) = []
 learned_from (tree p left right x) = []
 learned_from (choose p t this that) = []
 

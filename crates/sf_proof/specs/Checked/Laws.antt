@@ -48,6 +48,7 @@ IsWritable p (t.Split x y) = IsTermOfCode x × IsTermOfCode y
 IsWritable p (t.Drop a) = a < 2 ^ 32
 IsWritable p (t.Force a) = a < 2 ^ 32
 IsWritable p (t.Unroll a) = a < 2 ^ 32
+IsWritable p (t.Back a) = a < 2 ^ 32
 IsWritable p (t.Look a) = a < 2 ^ 32
 IsWritable p (t.Mutate a) = a < 2 ^ 32
 IsWritable p (t.Dispose a) = a < 2 ^ 32

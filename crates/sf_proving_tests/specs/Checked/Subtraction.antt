@@ -17,7 +17,7 @@ use Rattle.sf_sym.specs.State.{State}
 -- nothing is known of s0, s1 and s2, and these atoms are there
 abbrev pub holding : List Numbered → State
 holding atoms = record {
-  links = record { tl = Some tl; l = Some l; r = Some r };
+  links = record { tl = Some tl; pv = None; l = Some l; r = Some r };
   vars = [];
   apart = [];
   atoms = atoms;

@@ -111,9 +111,10 @@ no_formed = record {
 }
 
 -- it has no links
-pub no_links : AreLinks [] (record { tl = None; l = None; r = None })
+pub no_links : AreLinks [] (record { tl = None; pv = None; l = None; r = None })
 no_links = record {
   next = λ k e. none-some _ e;
+  back = λ k e. none-some _ e;
   left = λ k e. none-some _ e;
   right = λ k e. none-some _ e;
 }
@@ -128,7 +129,7 @@ no_program = record {
   fields = no_vec;
   resources = no_vec;
   procedures = no_vec;
-  links = record { tl = None; l = None; r = None };
+  links = record { tl = None; pv = None; l = None; r = None };
   init = None;
   formed = no_formed;
   linked = no_links;

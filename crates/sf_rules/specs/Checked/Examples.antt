@@ -48,7 +48,7 @@ two_variables atoms = record (state_with atoms) { vars = (Own 0, Sym 0) ∷ (Own
 -- x = s0, s0 != nil, and these atoms, in a program whose cells have neither tl nor r
 abbrev pub without_links : List Numbered → State
 without_links atoms =
-    record (state_with atoms) { links = record { tl = None; l = Some l; r = None } }
+    record (state_with atoms) { links = record { tl = None; pv = None; l = Some l; r = None } }
 
 -- absurd: nothing is left where a cell is at nil, and there is no such rule where the cell is at s0
 unfoldable pub NoCellIsAtNil : Type 0

@@ -11,7 +11,7 @@ use Rattle.sf_core.specs.declared.assertion.Test.{Test}
 use Rattle.sf_core.specs.declared.command.Expr.{Expr}
 use Rattle.sf_core.specs.declared.command.Occurrence.{Occurrence}
 use Rattle.sf_core.specs.Program.Syntax.{Assertion, Block, Call, assign, look_up, mutate, new, dispose, if, while, call, fork, with, Procedure, Resource}
-use Rattle.sf_normal.specs.Knowledge.{absurd_row, drop_row, force_row, split_row, unroll_row}
+use Rattle.sf_normal.specs.Knowledge.{absurd_row, back_row, drop_row, force_row, split_row, unroll_row}
 use Rattle.sf_rules.specs.Checked.Rows.Add.{assume_row}
 use Rattle.sf_rules.specs.Checked.Rows.Branches.{branch_row}
 use Rattle.sf_rules.specs.Callee.{term_after, term_before}
@@ -43,6 +43,7 @@ pub data Rows (d : Setting) (g : Goal) (left : List Goal) : Type 0 where
   by_force : (a : ℕ) → force_row g a ≡ Some left → Rows d g left
   by_split : (t u : Term) → split_row g t u ≡ Some left → Rows d g left
   by_unroll : (a : ℕ) → unroll_row g a ≡ Some left → Rows d g left
+  by_back : (a : ℕ) → back_row g a ≡ Some left → Rows d g left
   -- a command in front
   by_assign : (p : Place) (x : Occurrence) (e : Expr) (rest : List Item) → g.todo ≡ run (assign p x e) ∷ rest
       → assign_row g.state (assign p x e) rest ≡ Some left → Rows d g left

@@ -2,11 +2,12 @@
 -- Ordinary: a table as nested choices.
 use Rattle.std.specs.Prelude.{ℕ, Bool, ◌||◌, not, cond, is_some, Option, Some, None, List, [], ◌∷◌}
 use Rattle.std.specs.Option.{option_map, option_and_then}
-use Rattle.sf_consume.specs.Subtract.{bind_step, both, cell_step, empty_step, is_same_shape, same_step, wanted_shape, Step}
+use Rattle.sf_consume.specs.Subtract.{bind_step, both, cell_step, empty_step, four, is_same_shape, same_step, wanted_shape, Step}
+use Rattle.sf_base.specs.declared.ids.FieldId.{FieldId}
 use Rattle.sf_core.specs.declared.assertion.Operand.{Operand}
 use Rattle.sf_core.specs.declared.assertion.Test.{Test}
 use Rattle.sf_core.specs.declared.assertion.Test.TheVariants.{True, Equal, Differ}
-use Rattle.sf_core.specs.Program.Syntax.{Conjunct, holds, points, segment, tree, choose, Conjuncts, none, also, Command, assign, look_up, mutate, new, dispose, if, while, call, fork, with}
+use Rattle.sf_core.specs.Program.Syntax.{Conjunct, holds, points, segment, doubly, tree, choose, Conjuncts, none, also, Command, assign, look_up, mutate, new, dispose, if, while, call, fork, with}
 use Rattle.sf_sym.specs.declared.atom.Atom.{Atom}
 use Rattle.sf_sym.specs.declared.atom.Numbered.{Numbered}
 use Rattle.sf_sym.specs.declared.tag.Tag.{Tag}
@@ -14,15 +15,16 @@ use Rattle.sf_sym.specs.declared.tag.Tag.TheVariants as t
 use Rattle.sf_sym.specs.declared.term.Term.{Term}
 use Rattle.sf_sym.specs.declared.term.Term.TheVariants.{Nil}
 use Rattle.sf_sym.specs.Cells.{fields_at}
+use Rattle.sf_sym.specs.Fields.{field_term}
 use Rattle.sf_sym.specs.Decided.{command_test, is_false, is_true, term_of, test_of_terms}
 use Rattle.sf_sym.specs.Goal.{Item, run, add, take, gave, head, again, exit, return, end, Goal}
 use Rattle.sf_sym.specs.Pending.{Pending}
 use Rattle.sf_sym.specs.State.{State, term}
-use Rattle.sf_sym.specs.Tests.{allocated, differs, is_absurd, is_constant, parts}
+use Rattle.sf_sym.specs.Tests.{allocated, differs, is_absurd, is_constant, parts, same_term}
 use Rattle.sf_sym.specs.Known.{is_nothing}
 use Rattle.sf_search.specs.declared.choices.choice.Choice.{Choice}
 use Rattle.sf_search.specs.declared.choices.choice.Choice.TheVariants.{Takes as takes, Stays as stays}
-use Rattle.sf_search.specs.Strategy.{lowest, lowest_forced, or_else, segment_at, tree_at, undecided_ends, which}
+use Rattle.sf_search.specs.Strategy.{double_at, has_term, last_at, lowest, lowest_forced, or_else, segment_at, tree_at, undecided_ends, which}
 use Rattle.sf_sym.specs.declared.stuck.Stuck.{Stuck}
 use Rattle.sf_sym.specs.declared.stuck.Stuck.TheVariants.{NoCell as no_cell, NotEqual as not_equal, NotDifferent as not_different, NoAtom as no_atom, Leak as leak, EndNotAllocated as end_not_allocated}
 
@@ -36,18 +38,33 @@ split_found kind (Some (a, e)) = takes (t.Split e.0 e.1)
 abbrev pub split_or : State → Stuck → Choice
 split_or s kind = split_found kind (lowest (undecided_ends s) (parts s))
 
--- a part of the heap that may begin with a cell at the term is opened: the lowest segment there, or else the lowest
--- tree; it is unrolled where it surely isn't empty, and else its ends are split
+-- a part of the heap that may begin with a cell at the term is opened: it is unrolled where it surely isn't empty, and
+-- else its ends are split
 abbrev pub opened_by : State → (root end_ : Term) → (a : ℕ) → Choice
 opened_by s u v a = cond (differs s u v) (takes (t.Unroll a)) (takes (t.Split u v))
 
-abbrev pub opened_first : State → Term → Option (ℕ × Term) → Option (ℕ × Atom) → Option Choice
-opened_first s u (Some (a, w)) others = Some (opened_by s u w a)
-opened_first s u None (Some (a, x)) = Some (opened_by s u Nil a)
-opened_first s u None None = None
+-- a doubly linked segment whose last cell may be at the term is opened from there
+abbrev pub opened_back : State → ℕ × (Term × Term) → Choice
+opened_back s a = cond (differs s a.1.0 a.1.1) (takes (t.Back a.0)) (takes (t.Split a.1.0 a.1.1))
+
+-- the lowest doubly linked segment from the term, or else the lowest whose last cell is there
+abbrev pub opened_either : State → Term → Option (ℕ × (Term × Term × Term)) → Option (ℕ × (Term × Term))
+    → Option Choice
+opened_either s u (Some a) others = Some (opened_by s u a.1.2 a.0)
+opened_either s u None others = option_map (opened_back s) others
+
+abbrev pub opened_double : State → Term → Option Choice
+opened_double s u = opened_either s u (lowest (double_at u) s.atoms) (lowest (last_at u) s.atoms)
+
+-- the lowest segment there, or else the lowest tree, or else one of these
+abbrev pub opened_first : State → Term → Option (ℕ × Term) → Option (ℕ × Atom) → Option Choice → Option Choice
+opened_first s u (Some (a, w)) others doubles = Some (opened_by s u w a)
+opened_first s u None (Some (a, x)) doubles = Some (opened_by s u Nil a)
+opened_first s u None None doubles = doubles
 
 abbrev pub opened : State → Term → Option Choice
-opened s u = opened_first s u (lowest (segment_at u) s.atoms) (lowest (tree_at u) s.atoms)
+opened s u =
+    opened_first s u (lowest (segment_at u) s.atoms) (lowest (tree_at u) s.atoms) (opened_double s u)
 
 -- that atom, or else this
 abbrev pub found_or : {X : Type 0} → (found : ℕ → Choice) → Choice → Option (ℕ × X) → Choice
@@ -164,6 +181,40 @@ at_tree s bindings c (Some u) =
     (or_else (begins_with s u t.Node)
     (or_else (takes_if (not (differs s u Nil)) (t.Split u Nil)) (split_or s no_atom))))
 
+-- a wanted doubly linked segment from the lowest segment at its first term: it is joined where the same stands before
+-- both, and the wanted end can't be inside it
+abbrev pub at_first_part : State → (before to : Term) → Option (ℕ × (Term × Term × Term)) → Choice
+at_first_part s p u None = split_or s no_atom
+at_first_part s p u (Some a) =
+    cond (same_term a.1.0 p)
+    (cond (is_constant u || allocated s u (Some a.0)) (takes (t.Join a.0)) (split_or s end_not_allocated))
+    (split_or s not_equal)
+
+-- or from the lowest cell there, whose field that leads back is known or not
+abbrev pub at_first_cell : State → (before : Term) → (other : Choice) → Option (ℕ × Option Term) → Choice
+at_first_cell s p other None = other
+at_first_cell s p other (Some a) = cond (has_term p a.1) (takes (t.Head a.0)) (split_or s not_equal)
+
+-- that cell's number and field
+abbrev pub field_of : FieldId → ℕ × List (FieldId × Term) → ℕ × Option Term
+field_of back a = (a.0, field_term a.1 back)
+
+-- a wanted doubly linked segment between terms that aren't one
+abbrev pub at_open_double : State → FieldId → Term × Term × Term × Term → Choice
+at_open_double s back w =
+    or_else (takes_if (not (differs s w.0 w.3)) (t.Split w.0 w.3))
+    (at_first_cell s w.1 (at_first_part s w.1 w.3 (lowest (double_at w.0) s.atoms))
+    (option_map (field_of back) (lowest (λ x. fields_at x w.0) s.atoms)))
+
+-- a wanted doubly linked segment between these terms
+abbrev pub at_double : State → List (Option Term) → Conjunct Term → FieldId → Option (Term × Term × Term × Term)
+    → Choice
+at_double s bindings c back None = split_or s no_atom
+at_double s bindings c back (Some w) =
+    or_else (takes_if (has_step empty_step s bindings c) t.Empty)
+    (or_else (exact_atom s (wanted_shape bindings c))
+    (cond (same_term w.0 w.3) (split_or s not_equal) (at_open_double s back w)))
+
 -- one wanted conjunct
 abbrev pub at_wanted : State → List (Option Term) → Conjunct Term → Choice
 at_wanted s bindings (holds p True) = split_or s not_equal
@@ -172,6 +223,8 @@ at_wanted s bindings (holds p (Differ x y)) = at_inequality s bindings x y
 at_wanted s bindings (points p x fs) = at_points s bindings (points p x fs) (term_of bindings x)
 at_wanted s bindings (segment p next x y) =
     at_list s bindings (segment p next x y) (both bindings x y)
+at_wanted s bindings (doubly q next back x p l y) =
+    at_double s bindings (doubly q next back x p l y) back (four bindings x p l y)
 at_wanted s bindings (tree p left right x) = at_tree s bindings (tree p left right x) (term_of bindings x)
 at_wanted s bindings (choose p test this that) = at_choice s bindings test
 

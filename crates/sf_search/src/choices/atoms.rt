@@ -3,13 +3,15 @@
 
 ghost use Rattle.std.specs.Prelude.{◌≡◌, MatchResult, None, Some};
 ghost use Rattle.std.specs.Option.{option_map};
-ghost use Rattle.sf_search.specs.Checked.Chooses.{opened, opened_by, split_or};
+ghost use Rattle.sf_search.specs.Checked.Chooses.{opened, opened_back, opened_by, opened_double, split_or};
 ghost use Rattle.sf_search.specs.Strategy.{lower, lowest, or_else, undecided_ends};
 ghost use Rattle.sf_sym.specs.Cells.{fields_at};
 ghost use Rattle.sf_sym.specs.Tests.{parts};
 
 use crate::choices::choice::Choice;
-use crate::choices::seeking::{lowest_cell, lowest_segment, lowest_tree};
+use crate::choices::seeking::{
+    lowest_cell, lowest_double, lowest_last, lowest_segment, lowest_tree,
+};
 use sf_sym::{Atom, Numbered, State, Stuck, Tag, Term};
 
 /// Where a goal would be stuck: the ends of the lowest atom or taken atom of which it isn't known
@@ -118,15 +120,42 @@ fn without_cell(state: &State, t: Term, kind: Stuck) -> Choice
     }
 }
 
-/// The lowest segment from the term is opened, or else the lowest tree there.
+/// The lowest segment from the term is opened, or else the lowest tree there, or else a doubly linked
+/// segment.
 fn opened(state: &State, t: Term) -> Option<Choice>
     ensures { result ≡ opened state.now t }
 {
     if let Some((a, end)) = lowest_segment(state, t) {
         return Some(opened_by(state, t, end, a));
     }
-    let a = lowest_tree(state, t)?;
-    Some(opened_by(state, t, Term::Nil, a))
+    if let Some(a) = lowest_tree(state, t) {
+        return Some(opened_by(state, t, Term::Nil, a));
+    }
+    opened_double(state, t)
+}
+
+/// The lowest doubly linked segment from the term is opened, or else the lowest whose last cell may be
+/// there.
+fn opened_double(state: &State, t: Term) -> Option<Choice>
+    ensures { result ≡ opened_double state.now t }
+{
+    if let Some((a, (_, _, end))) = lowest_double(state, t) {
+        return Some(opened_by(state, t, end, a));
+    }
+    let (a, (first, end)) = lowest_last(state, t)?;
+    Some(opened_back(state, first, end, a))
+}
+
+/// A doubly linked segment with these ends is unrolled from its last cell where it surely isn't empty,
+/// and else its ends are split.
+fn opened_back(state: &State, first: Term, end: Term, a: u32) -> Choice
+    ensures { result ≡ opened_back state.now (a, (first, end)) }
+{
+    if state.differs(first, end) {
+        Choice::Takes(Tag::Back(a))
+    } else {
+        Choice::Takes(Tag::Split(first, end))
+    }
 }
 
 /// A segment or tree with these ends is unrolled where it surely isn't empty, and else its ends are

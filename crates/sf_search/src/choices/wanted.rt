@@ -4,14 +4,18 @@ ghost use Rattle.std.specs.Prelude.{◌≡◌, IfOk};
 ghost use Rattle.std.specs.Option.{option_map};
 ghost use Rattle.sf_consume.specs.Subtract.{wanted_shape};
 ghost use Rattle.sf_core.specs.Program.View.{conjunct_of};
-ghost use Rattle.sf_search.specs.Checked.Chooses.{at_equality, at_inequality, at_list, at_points, at_tree, at_want, at_wanted, at_wanted_cell, begins_with, exact_atom, joins};
+ghost use Rattle.sf_search.specs.Checked.Chooses.{at_double, at_equality, at_first_part, at_inequality, at_list, at_open_double, at_points, at_tree, at_want, at_wanted, at_wanted_cell, begins_with, exact_atom, joins};
+ghost use Rattle.sf_search.specs.Strategy.{double_at, lowest};
 ghost use Rattle.sf_sym.specs.Pending.{pending_of};
 
 use crate::choices::atoms::{at_cell, split_or};
 use crate::choices::branches::at_choice;
 use crate::choices::choice::Choice;
-use crate::choices::seeking::{lowest_cell, lowest_segment, lowest_shape};
-use sf_consume::{binds, both, fits_cell, is_empty, is_same, wanted_shape};
+use crate::choices::seeking::{
+    lowest_cell, lowest_double, lowest_field, lowest_segment, lowest_shape,
+};
+use sf_base::FieldId;
+use sf_consume::{binds, both, fits_cell, four, is_empty, is_same, wanted_shape};
 use sf_core::{Conjunct, Operand, Test};
 use sf_sym::{Pending, State, Stuck, Tag, Term, term_of};
 use std::alloc::{AllocError, Global};
@@ -42,6 +46,9 @@ fn at_wanted(
         Conjunct::Holds(_, Test::Differ(x, y)) => Ok(at_inequality(state, bindings, *x, *y)),
         Conjunct::Points(_, x, _) => { at_points(alloc, state, bindings, c, term_of(bindings, x)) }
         Conjunct::Segment(_, _, x, y) => Ok(at_list(state, bindings, c, both(bindings, *x, *y))),
+        Conjunct::Doubly(_, _, back, x, p, l, y) => {
+            Ok(at_double(state, bindings, c, *back, four(bindings, *x, *p, *l, *y)))
+        }
         Conjunct::Tree(_, _, _, x) => Ok(at_tree(state, bindings, c, term_of(bindings, x))),
         Conjunct::If(_, test, _, _) => Ok(at_choice(state, bindings, test)),
     }
@@ -170,6 +177,62 @@ fn at_tree(
         return Choice::Takes(Tag::Split(t, Term::Nil));
     }
     split_or(state, Stuck::NoAtom)
+}
+
+/// At a wanted doubly linked segment between these terms, if all of its operands have one.
+fn at_double(
+    state: &State,
+    bindings: &[Option<Term>],
+    c: &Conjunct<Term>,
+    back: FieldId,
+    terms: Option<(Term, Term, Term, Term)>,
+) -> Choice
+    ensures { result ≡ at_double state.now bindings.now (conjunct_of c.now) back terms }
+{
+    let Some((t, p, l, u)) = terms else {
+        return split_or(state, Stuck::NoAtom);
+    };
+    if is_empty(bindings, c) {
+        return Choice::Takes(Tag::Empty);
+    }
+    if let Some(choice) = exact(state, bindings, c) {
+        return choice;
+    }
+    if t.is(u) {
+        return split_or(state, Stuck::NotEqual);
+    }
+    at_open_double(state, back, (t, p, l, u))
+}
+
+/// At a wanted doubly linked segment between terms that aren't one: the first of them is split from the
+/// fourth, or what begins there decides.
+fn at_open_double(state: &State, back: FieldId, w: (Term, Term, Term, Term)) -> Choice
+    ensures { result ≡ at_open_double state.now back w }
+{
+    let (t, p, _, u) = w;
+    if !state.differs(t, u) {
+        return Choice::Takes(Tag::Split(t, u));
+    }
+    match lowest_field(state, t, back) {
+        Some((a, Some(q))) if q.is(p) => Choice::Takes(Tag::Head(a)),
+        Some(_) => split_or(state, Stuck::NotEqual),
+        None => at_first_part(state, t, p, u),
+    }
+}
+
+/// The lowest doubly linked segment from the first term is joined, where the second stands before it and
+/// the third can't be inside it.
+fn at_first_part(state: &State, t: Term, p: Term, u: Term) -> Choice
+    ensures { result ≡ at_first_part state.now p u (lowest (double_at t) state.now.atoms) }
+{
+    match lowest_double(state, t) {
+        Some((_, (q, ..))) if !q.is(p) => split_or(state, Stuck::NotEqual),
+        Some((a, _)) if u.is_constant() || state.allocated(u, Some(a)) => {
+            Choice::Takes(Tag::Join(a))
+        }
+        Some(_) => split_or(state, Stuck::EndNotAllocated),
+        None => split_or(state, Stuck::NoAtom),
+    }
 }
 
 /// The lowest atom that is the wanted segment or tree.

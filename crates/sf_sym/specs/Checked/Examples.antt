@@ -21,7 +21,7 @@ use Rattle.sf_sym.specs.Holds.{Holds}
 -- x = s0, s0 != nil, and these atoms
 abbrev pub state_with : List Numbered → State
 state_with atoms = record {
-  links = record { tl = Some tl; l = Some l; r = Some r };
+  links = record { tl = Some tl; pv = None; l = Some l; r = Some r };
   vars = (Own 0, Sym 0) ∷ [];
   apart = (Sym 0, Nil) ∷ [];
   atoms = atoms;

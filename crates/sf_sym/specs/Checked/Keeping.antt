@@ -1,17 +1,17 @@
 -- Keeping: what a state keeps beside its atoms: their rows by the terms at which they begin and at which they have cells, and
 -- marks of those that are still to be tested.
 -- Ordinary: indices of a list, and a work list.
-use Rattle.std.specs.Prelude.{◌≡◌, ◌⊎◌, ℕ, Bool, true, false, ◌&&◌, ◌||◌, not, Option, Some, List, [], ◌∷◌, map, is_some}
+use Rattle.std.specs.Prelude.{◌≡◌, ◌⊎◌, ℕ, Bool, true, false, ◌&&◌, ◌||◌, not, cond, Option, Some, None, List, [], ◌∷◌, map, is_some}
 use Rattle.std.specs.List.{list_any}
 use Rattle.sf_sym.specs.declared.atom.Atom.{Atom}
-use Rattle.sf_sym.specs.declared.atom.Atom.TheVariants.{Points, Ls, Tree}
+use Rattle.sf_sym.specs.declared.atom.Atom.TheVariants.{Points, Ls, Tree, Dll}
 use Rattle.sf_sym.specs.declared.atom.Numbered.{Numbered}
 use Rattle.sf_sym.specs.declared.outline.Row.{Row}
 use Rattle.sf_sym.specs.declared.term.Term.{Term}
 use Rattle.sf_sym.specs.declared.term.Term.TheVariants.{Nil}
 use Rattle.sf_sym.specs.Checked.Rows.{bare, is_marked, row_of, rows_at, same_row}
 use Rattle.sf_sym.specs.Known.{forced_by, is_nothing}
-use Rattle.sf_sym.specs.Tests.{allocates, begins, has_cell, is_constant, is_integer_tree, is_left_out, is_pair, root, roots}
+use Rattle.sf_sym.specs.Tests.{allocates, begins, has_cell, is_constant, is_integer_tree, is_left_out, is_pair, root, roots, same_term}
 
 -- it is among them
 abbrev pub In : {A : Type 0} → A → List A → Type 0
@@ -27,6 +27,14 @@ abbrev pub joins : Term × Term → Atom → Bool
 joins p (Points t fields) = false
 joins p (Ls t u) = is_pair t u p
 joins p (Tree t) = is_pair t Nil p
+joins p (Dll v q l u) = is_pair v u p
+
+-- where an atom begins at a term, the other term at which it begins, if there is one
+abbrev pub other_root : Term → Atom → Option Term
+other_root t (Points r fields) = None
+other_root t (Ls r u) = None
+other_root t (Tree r) = None
+other_root t (Dll v p l u) = cond (same_term v l) None (Some (cond (same_term v t) l v))
 
 -- a part has a cell once the two terms differ, and has none before
 abbrev pub gets_cell : List (Term × Term) → Term × Term → Row → Bool
@@ -110,6 +118,12 @@ abbrev pub EntersOf : List Row → (old now : List (Term × List Row)) → Type 
 EntersOf rows old now =
     (t : Term) (r : Row) → In r (rows_at now t) → In r (rows_at old t) ⊎ (In r rows × (row_begins t r ≡ true))
 
+-- MayEnter: all that was there still is, and no more but this row, at terms where its atom begins
+pub record MayEnter (row : Row) (old now : List (Term × List Row)) : Type 0 where
+  pub only : (t : Term) (r : Row) → In r (rows_at now t)
+      → In r (rows_at old t) ⊎ ((r ≡ row) × (row_begins t row ≡ true))
+  pub still : Has old now
+
 -- the row is in the index at each term where its atom begins
 abbrev pub IsThere : List (Term × List Row) → Row → Type 0
 IsThere index r = (t : Term) → row_begins t r ≡ true → In r (rows_at index t)
@@ -161,9 +175,15 @@ IsCovered roots cells marks c =
     (t : Term) → row_begins t c ≡ true
     → In c (rows_at cells t) × ((r : Row) → In r (rows_at roots t) → HasMark marks r)
 
--- each row of the index was there, or is in that of roots at the same term
+-- each row of the index was there, or is in that of roots, at a term where its atom begins
 abbrev pub AreAlso : (roots old now : List (Term × List Row)) → Type 0
-AreAlso roots old now = (t : Term) (r : Row) → In r (rows_at now t) → In r (rows_at old t) ⊎ In r (rows_at roots t)
+AreAlso roots old now = (t : Term) (r : Row) → In r (rows_at now t)
+    → In r (rows_at old t) ⊎ (((u : Term) × In r (rows_at roots u)) × (row_begins t r ≡ true))
+
+-- all rows that begin at the other term at which an atom does are marked
+abbrev pub IsMarkedBeside : (roots : List (Term × List Row)) → (at : Term) → Row → (marks : List Row) → Type 0
+IsMarkedBeside roots at row marks = (u : Term) → other_root at (bare row.outline) ≡ Some u
+    → (r : Row) → In r (rows_at roots u) → HasMark marks r
 
 -- each mark was there, or is of a row of the index of roots
 abbrev pub AreMarksAlso : (roots : List (Term × List Row)) → (old now : List Row) → Type 0

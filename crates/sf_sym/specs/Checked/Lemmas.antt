@@ -32,7 +32,7 @@ use Rattle.sf_base.specs.HeapStore.{Heap, ◌⋆◌}
 use Rattle.sf_core.specs.declared.fields.Links.{Links}
 use Rattle.sf_base.specs.declared.ids.FieldId.{FieldId}
 use Rattle.sf_sym.specs.declared.atom.Atom.{Atom}
-use Rattle.sf_sym.specs.declared.atom.Atom.TheVariants.{Points, Ls, Tree}
+use Rattle.sf_sym.specs.declared.atom.Atom.TheVariants.{Points, Ls, Tree, Dll}
 use Rattle.sf_sym.specs.declared.atom.Numbered.{Numbered}
 use Rattle.sf_sym.specs.declared.term.Term.{Term}
 use Rattle.sf_sym.specs.declared.term.Term.TheVariants.{Nil, Int, Sym}
@@ -74,6 +74,7 @@ points_at (Points root gs) t fields e =
     points_step root t gs fields (same_term root t) (same_term_is root t) e
 points_at (Ls u v) t fields e = absurd (cc)
 points_at (Tree u) t fields e = absurd (cc)
+points_at (Dll v p l u) t fields e = absurd (cc)
 
 -- what comes after a field comes after each one before it
 pub after-mono : (m n : ℕ) (fs : List (FieldId × Term)) → m < n → AreAfter n fs → AreAfter m fs

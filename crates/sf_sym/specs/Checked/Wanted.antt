@@ -16,7 +16,7 @@ use Rattle.sf_sym.specs.State.{State}
 
 -- what a store knows, as a state without variables
 abbrev pub known : Store → State
-known s = state_in (record { tl = None; l = None; r = None }) [] 0 (heap s)
+known s = state_in (record { tl = None; pv = None; l = None; r = None }) [] 0 (heap s)
 
 -- the rows of its parts
 abbrev pub all_rows : Store → List Row

@@ -1,12 +1,12 @@
 -- Wishes: what the code finds that a goal wants, as the definitions see it; and what it is for each form of conjunct that
 -- a part of a heap satisfies it.
 -- Ordinary: one case a case.
-use Rattle.std.specs.Prelude.{◌≡◌, ◌==◌, ℕ, Bool, false, Option, List}
+use Rattle.std.specs.Prelude.{◌≡◌, ◌==◌, ℕ, Bool, false, Option, Some, None, List}
 use Rattle.std.specs.Option.{option_and_then}
 use Rattle.sf_base.specs.declared.ids.FieldId.{FieldId}
 use Rattle.sf_base.specs.declared.value.Value.{Value}
 use Rattle.sf_base.specs.HeapStore.{Heap}
-use Rattle.sf_core.specs.Assertions.Sat.{IsTrueOf, Seg, Tree, operand}
+use Rattle.sf_core.specs.Assertions.Sat.{Dseg, IsTrueOf, Seg, Tree, operand}
 use Rattle.sf_core.specs.declared.assertion.Operand.{Operand}
 use Rattle.sf_core.specs.declared.assertion.Operand.TheVariants.{Known, Exists}
 use Rattle.sf_core.specs.declared.assertion.Test.{Test}
@@ -15,7 +15,7 @@ use Rattle.sf_sym.specs.declared.term.Term.{Term}
 use Rattle.sf_sym.specs.Holds.{IsBound, term_value}
 use Rattle.sf_witness.specs.Checked.Shapes.{HasPart}
 use Rattle.sf_witness.specs.declared.wanted.Want.{Want as CodeWant}
-use Rattle.sf_witness.specs.Located.{located}
+use Rattle.sf_witness.specs.Located.{located, value_at}
 use Rattle.sf_witness.specs.Wanted.{Want, plain, printed_value, there_value}
 
 -- a want of the code, if it is no choice
@@ -42,6 +42,12 @@ abbrev pub HasSegmentWith : List (Option Term) → FieldId → (from to : Operan
 HasSegmentWith bindings next x y heap =
     (some : ℕ → Value) × IsBound located bindings some
     × HasPart (Seg next (operand (term_value located) some y) (operand (term_value located) some x)) heap
+
+-- a part of the heap is the doubly linked segment of these terms, if they are there
+abbrev pub HasDoubleOf : (next back : FieldId) → Option (Term × Term × Term × Term) → Heap → Type 0
+HasDoubleOf next back None heap = ⊥
+HasDoubleOf next back (Some d) heap =
+    HasPart (Dseg next back (value_at d.2) (value_at d.3) (value_at d.1) (value_at d.0)) heap
 
 -- a part of the heap is the tree, with some values of the existentials
 abbrev pub HasTreeWith : List (Option Term) → (left right : FieldId) → (root : Operand Term) → Heap → Type 0

@@ -7,7 +7,7 @@ use Rattle.sf_core.specs.declared.assertion.Operand.TheVariants.{Known, Exists}
 use Rattle.sf_core.specs.declared.assertion.Test.TheVariants.{True, Equal, Differ}
 use Rattle.sf_core.specs.Assertions.Determined.{IsKnown, known_after, known_inside}
 use Rattle.sf_core.specs.Assertions.InOrder.{InOrder, InOrderInside, IsInOrder, IsNext, IsSupplied}
-use Rattle.sf_core.specs.Program.Syntax.{Conjunct, holds, points, segment, tree, choose, Level, level, Conjuncts, none, also}
+use Rattle.sf_core.specs.Program.Syntax.{Conjunct, holds, points, segment, doubly, tree, choose, Level, level, Conjuncts, none, also}
 
 -- that an operand is known holds in one way
 IsKnown-prop : {E : Type 0} (known : ℕ → Bool) (x : Operand E) → IsProp (IsKnown known x)
@@ -31,6 +31,12 @@ mutual
   IsNext-prop known (holds p (Differ x y)) = ×_prop (IsKnown-prop known x) (IsKnown-prop known y)
   IsNext-prop known (points p x fs) = IsKnown-prop known x
   IsNext-prop known (segment p next x y) = ×_prop (IsKnown-prop known x) (IsKnown-prop known y)
+  IsNext-prop known (doubly p next back x b l y) = λ u v i. (
+    IsKnown-prop known x u.0 v.0 i,
+    IsKnown-prop known b u.1 v.1 i,
+    IsKnown-prop known l u.2 v.2 i,
+    IsKnown-prop known y u.3 v.3 i,
+  )
   IsNext-prop known (tree p left right x) = IsKnown-prop known x
   IsNext-prop known (choose p t this that) = λ u v i. (
     IsSupplied-prop known (choose p t this that) u.0 v.0 i,

@@ -11,10 +11,10 @@ use Rattle.sf_core.specs.declared.assertion.Operand.TheVariants.{Exists}
 use Rattle.sf_core.specs.declared.assertion.Scope.{Scope}
 use Rattle.sf_core.specs.declared.command.Expr.{Expr}
 use Rattle.sf_core.specs.Assertions.Determined.{CanBeTaken, Determined, HasOrder, Leaves, is_learned_in, known_after}
-use Rattle.sf_base.specs.HeapStore.{Heap, Splits}
+use Rattle.sf_base.specs.HeapStore.{Cell, Heap, IsEmpty, IsOne, Splits}
 use Rattle.sf_core.specs.Assertions.Occurs.{OccursInAll, VarOccursIn}
 use Rattle.sf_core.specs.Checked.Assertions.Precise.{IsPrecise}
-use Rattle.sf_core.specs.Assertions.Sat.{Sat, SatAll, SatOne, Seg, Tree, operand, value}
+use Rattle.sf_core.specs.Assertions.Sat.{Dseg, Sat, SatAll, SatOne, Seg, Tree, operand, value}
 use Rattle.sf_core.specs.Checked.Assertions.Shape.{IsAcyclic, IsFinite, IsUnshared}
 use Rattle.sf_core.specs.Program.Syntax.{Conjunct, Conjuncts, Level, level, points, segment, tree}
 
@@ -53,6 +53,43 @@ SegmentsCompose = (next : FieldId) (from middle to : Value) (heap one two : Heap
     → ((location : ℕ) → to ≡ loc location → one location ≡ None)
     → Seg next middle from one → Seg next to middle two → Seg next to from heap
 
+-- where a doubly linked segment holds, the heap has no cell at its end
+unfoldable pub DoublyLinkedSegmentHasNoCellAtItsEnd : Type 0
+DoublyLinkedSegmentHasNoCellAtItsEnd = (next back : FieldId) (from before last to : Value) (heap : Heap)
+    (location : ℕ) → Dseg next back last to before from heap → to ≡ loc location → heap location ≡ None
+
+-- a doubly linked segment that ends where it begins has no cell, and its last cell is what stands before it
+unfoldable pub DoublyLinkedSegmentMayBeEmpty : Type 0
+DoublyLinkedSegmentMayBeEmpty = (next back : FieldId) (from before last : Value) (heap : Heap)
+    → Dseg next back last from before from heap ↔ (before ≡ last) × IsEmpty heap
+
+-- two doubly linked segments, one after the other, are one, where the first has no cell at the end of the
+-- second
+unfoldable pub DoublyLinkedSegmentsCompose : Type 0
+DoublyLinkedSegmentsCompose = (next back : FieldId) (from before middle far last to : Value)
+    (heap one two : Heap) → Splits heap one two
+    → ((location : ℕ) → to ≡ loc location → one location ≡ None)
+    → Dseg next back middle far before from one → Dseg next back last to middle far two
+    → Dseg next back last to before from heap
+
+-- where the ends of a doubly linked segment differ, it is one up to its last cell, and apart from it
+-- that cell, which leads to its end and back to the cell before it
+unfoldable pub DoublyLinkedSegmentEndsInItsLastCell : Type 0
+DoublyLinkedSegmentEndsInItsLastCell = (next back : FieldId) (from before last to : Value) (heap : Heap)
+    → from ≢ to → Dseg next back last to before from heap
+    → (location : ℕ) × (here : Cell) × (one rest : Heap) × (last ≡ loc location) × IsOne location here one
+    × Splits heap rest one × (here next.0 ≡ to) × Dseg next back (here back.0) last before from rest
+
+-- a doubly linked segment and one more cell at its end, which leads back to its last one, are one, where
+-- the first has no cell at the new end, which is another value than the old one
+unfoldable pub DoublyLinkedSegmentGrowsAtItsEnd : Type 0
+DoublyLinkedSegmentGrowsAtItsEnd = (next back : FieldId) (from before to : Value) (heap rest one : Heap)
+    (location : ℕ) (here : Cell)
+    → loc location ≢ to → ((other : ℕ) → to ≡ loc other → rest other ≡ None) → Splits heap rest one
+    → IsOne location here one → here next.0 ≡ to
+    → Dseg next back (here back.0) (loc location) before from rest
+    → Dseg next back (loc location) to before from heap
+
 -- where a tree holds, the heap is finite, and no location of it leads back to itself
 unfoldable pub TreeIsFiniteAndAcyclic : Type 0
 TreeIsFiniteAndAcyclic = (place : Place) (left right : FieldId) (root : Operand Expr) (vars : Var → Value)
@@ -70,9 +107,10 @@ unfoldable pub SatisfyingHeapsAreFinite : Type 0
 SatisfyingHeapsAreFinite = (assertion : Level Expr) (vars : Var → Value) (some : ℕ → Value) (heap : Heap)
     → Sat assertion (value vars) some heap → IsFinite heap
 
--- a segment between two values and a tree from a value are at most one part of each heap
+-- a segment between two values, doubly linked or not, and a tree from a value are at most one part of each heap
 unfoldable pub SegmentsAndTreesArePrecise : Type 0
 SegmentsAndTreesArePrecise = ((next : FieldId) (from to : Value) → IsPrecise (Seg next to from))
+    × ((next back : FieldId) (from before last to : Value) → IsPrecise (Dseg next back last to before from))
     × ((left right : FieldId) (root : Value) → IsPrecise (Tree left right root))
 
 -- whether a heap satisfies an assertion rests on the values of the variables that occur in it, and on no

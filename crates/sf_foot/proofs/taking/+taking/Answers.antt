@@ -5,7 +5,7 @@ use Rattle.sf_core.specs.Program.View.{level_of}
 use Rattle.sf_foot.specs.Variables.{value_of}
 use Rattle.sf_foot.proofs.Taken.{next_refused, next_taken, none_left}
 use Rattle.sf_foot.proofs.Takings.{overflows-level, overflows-this, overflows-that, takes-level, takes-test, takes-this, takes-that}
-use Rattle.sf_foot.proofs.Views.{view-holds, view-if, view-level, view-points, view-segment, view-tree}
+use Rattle.sf_foot.proofs.Views.{view-holds, view-if, view-level, view-points, view-segment, view-doubly, view-tree}
 use Rattle.sf_foot.proofs.taking.+taking.Goals as goal
 
 -- one conjunct after the other
@@ -58,6 +58,22 @@ take_one-returns-in-Segment-clause-yes t c = ok-then c.take_segment.result _ _ c
 pub take_one-returns-in-Segment-clause-no : goal.take_one-returns-in-Segment-clause-no
 take_one-returns-in-Segment-clause-no t c = ok-then c.take_segment.result _ _ c.take_segment.ensures.no
     (λ b f i. rw (c.in-Segment.is, view-segment c.in-Segment.field-0 c.in-Segment.next c.in-Segment.from c.in-Segment.to) (f i c.in-Segment.field-0))
+
+pub take_one-returns-in-Doubly-clause-yes : goal.take_one-returns-in-Doubly-clause-yes
+take_one-returns-in-Doubly-clause-yes t c = ok-then c.take_double.result _ _ c.take_double.ensures.yes
+    (λ b f i. rw (
+      c.in-Doubly.is,
+      view-doubly c.in-Doubly.field-0 c.in-Doubly.next c.in-Doubly.back c.in-Doubly.from
+          c.in-Doubly.before c.in-Doubly.last c.in-Doubly.to,
+    ) (f i c.in-Doubly.field-0))
+
+pub take_one-returns-in-Doubly-clause-no : goal.take_one-returns-in-Doubly-clause-no
+take_one-returns-in-Doubly-clause-no t c = ok-then c.take_double.result _ _ c.take_double.ensures.no
+    (λ b f i. rw (
+      c.in-Doubly.is,
+      view-doubly c.in-Doubly.field-0 c.in-Doubly.next c.in-Doubly.back c.in-Doubly.from
+          c.in-Doubly.before c.in-Doubly.last c.in-Doubly.to,
+    ) (f i c.in-Doubly.field-0))
 
 pub take_one-returns-in-Tree-clause-yes : goal.take_one-returns-in-Tree-clause-yes
 take_one-returns-in-Tree-clause-yes t c = ok-then c.take_tree.result _ _ c.take_tree.ensures.yes

@@ -4,7 +4,7 @@ use Rattle.sf_base.proofs.Zips.{zip-more}
 use Rattle.sf_core.specs.Program.View.{level_of}
 use Rattle.sf_precise.specs.Checked.Lemmas.Branches.{branch-ordered, branch-stuck, choice-prepared, made_of}
 use Rattle.sf_precise.proofs.Outers.{level-outer}
-use Rattle.sf_precise.proofs.Views.{view-if, view-level, view-points, view-segment}
+use Rattle.sf_precise.proofs.Views.{view-if, view-level, view-points, view-doubly, view-segment}
 use Rattle.sf_precise.proofs.ordering.+levels.Goals as goal
 
 pub order_branch-returns-in-Ok-clause-order : goal.order_branch-returns-in-Ok-clause-order
@@ -47,6 +47,15 @@ prepare-returns-in_ok-add_existential-in-Segment-2-clause-outer t c =
     rw (c.in-Segment.is, view-segment c.in-Segment.place c.in-Segment.next c.in-Segment.from c.in-Segment.to)
     (append-two _ _ _ _ _ c.in_ok-add_existential-in-Segment.ensures
     c.in_ok-add_existential-in-Segment-2.ensures)
+
+pub prepare-returns-in_ok-add_of_four-in-Doubly-clause-outer :
+    goal.prepare-returns-in_ok-add_of_four-in-Doubly-clause-outer
+prepare-returns-in_ok-add_of_four-in-Doubly-clause-outer t c =
+    rw (
+      c.in-Doubly.is,
+      view-doubly c.in-Doubly.place c.in-Doubly.next c.in-Doubly.back c.in-Doubly.from
+          c.in-Doubly.before c.in-Doubly.last c.in-Doubly.to,
+    ) c.in_ok-add_of_four-in-Doubly.ensures
 
 pub order_branch-returns-in-Ok-clause-outer : goal.order_branch-returns-in-Ok-clause-outer
 order_branch-returns-in-Ok-clause-outer t c =

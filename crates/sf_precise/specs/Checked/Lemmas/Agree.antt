@@ -11,7 +11,7 @@ use Rattle.sf_base.proofs.Sums.{either}
 use Rattle.sf_core.specs.Assertions.Determined.{CanBeTaken, HasOrder, IsKnown, IsReady, Leaves, all_taken, branches, is_learned, known_after, known_inside, plain, take}
 use Rattle.sf_core.specs.Assertions.Occurs.{OccursIn, OccursInAll, OccursInOne}
 use Rattle.sf_core.specs.Assertions.Scopes.{is_made_by}
-use Rattle.sf_core.specs.Program.Syntax.{Conjunct, holds, points, segment, tree, choose, Level, level, Conjuncts, none, also}
+use Rattle.sf_core.specs.Program.Syntax.{Conjunct, holds, points, segment, doubly, tree, choose, Level, level, Conjuncts, none, also}
 use Rattle.sf_precise.specs.Order.{IsFirstReady, IsOrder, IsOrderInside, IsOrderWithin}
 
 -- of the existentials that occur there, whatever the first knows, the second knows
@@ -59,6 +59,12 @@ module _ {E : Type 0} where
     agree-known known more x (λ n e. m n (inl (sym e))) i.0,
     agree-known known more y
         (λ n e. m n (inr (sym e))) i.1,
+  )
+  agree-ready known more (doubly p next back x b z y) m i = (
+    agree-known known more x (λ n e. m n (inl (sym e))) i.0,
+    agree-known known more b (λ n e. m n (inr (inl (sym e)))) i.1,
+    agree-known known more z (λ n e. m n (inr (inr (inl (sym e))))) i.2,
+    agree-known known more y (λ n e. m n (inr (inr (inr (sym e))))) i.3,
   )
   agree-ready known more (tree p left right x) m i = agree-known known more x (λ n e. m n (sym e)) i
   agree-ready known more (choose p t this that) m i = i
@@ -165,6 +171,7 @@ module _ {E : Type 0} where
     agree-within known more c (holds p t) m i = i
     agree-within known more c (points p x fs) m i = i
     agree-within known more c (segment p next x y) m i = i
+    agree-within known more c (doubly p next back x b z y) m i = i
     agree-within known more c (tree p left right x) m i = i
     agree-within known more c (choose p t this that) m i = (
       i.0,

@@ -10,7 +10,7 @@ use Rattle.sf_base.proofs.Sums.{either}
 use Rattle.sf_core.specs.Assertions.Determined.{CanBeTaken, HasOrder, IsKnown, IsReady, all_taken, branches, is_learned, known_after, known_inside, plain, take}
 use Rattle.sf_core.specs.Assertions.InOrder.{InOrder, InOrderInside, IsNext, IsSupplied, is_known}
 use Rattle.sf_core.specs.Assertions.Occurs.{OccursIn, OccursInAll, OccursInOne}
-use Rattle.sf_core.specs.Program.Syntax.{Conjunct, holds, points, segment, tree, choose, Level, level, Conjuncts, none, also}
+use Rattle.sf_core.specs.Program.Syntax.{Conjunct, holds, points, segment, doubly, tree, choose, Level, level, Conjuncts, none, also}
 use Rattle.sf_precise.specs.Order.{IsOrder, IsOrderInside, IsOrderWithin}
 use Rattle.sf_precise.specs.Checked.Prepared.{HasOrderInside}
 use Rattle.sf_precise.specs.Checked.Lemmas.Agree.{first-leaves, leaves-occurs_one, leaves-occurs_rest}
@@ -40,6 +40,7 @@ module _ {E : Type 0} where
     within-occurs known c (holds p t) x w i = subst (λ z. OccursInOne z x) (sym w) i
     within-occurs known c (points p y fs) x w i = subst (λ z. OccursInOne z x) (sym w) i
     within-occurs known c (segment p next y z) x w i = subst (λ u. OccursInOne u x) (sym w) i
+    within-occurs known c (doubly p next back y b l t) x w i = subst (λ z. OccursInOne z x) (sym w) i
     within-occurs known c (tree p left right y) x w i = subst (λ z. OccursInOne z x) (sym w) i
     within-occurs known c (choose p t this that) x w (inl i) = subst (λ z. OccursInOne z x) (sym w.2) (inl i)
     within-occurs known c (choose p t this that) x w (inr (inl i)) =
@@ -58,6 +59,7 @@ module _ {E : Type 0} where
   within-learned known c (holds p t) n w = ap (λ z. is_learned z n) (sym w)
   within-learned known c (points p y fs) n w = ap (λ z. is_learned z n) (sym w)
   within-learned known c (segment p next y z) n w = ap (λ u. is_learned u n) (sym w)
+  within-learned known c (doubly p next back y b l t) n w = ap (λ z. is_learned z n) (sym w)
   within-learned known c (tree p left right y) n w = ap (λ z. is_learned z n) (sym w)
   within-learned known c (choose p t this that) n w = ap (λ z. is_learned z n) (sym w.2)
 
@@ -121,6 +123,8 @@ module _ {E : Type 0} where
         ready-plain known (points p x fs) (subst (CanBeTaken known) w f) (λ q t this that e. cc)
     within-next known c (segment p next x y) w f =
         ready-plain known (segment p next x y) (subst (CanBeTaken known) w f) (λ q t this that e. cc)
+    within-next known c (doubly p next back x b z y) w f =
+        ready-plain known (doubly p next back x b z y) (subst (CanBeTaken known) w f) (λ q t this that e. cc)
     within-next known c (tree p left right x) w f =
         ready-plain known (tree p left right x) (subst (CanBeTaken known) w f) (λ q t this that e. cc)
     within-next known c (choose p t this that) w f =

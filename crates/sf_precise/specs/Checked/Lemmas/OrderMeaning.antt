@@ -14,7 +14,7 @@ use Rattle.sf_core.specs.Assertions.Determined.{CanBeTaken, Determined, HasOrder
 use Rattle.sf_base.specs.HeapStore.{Heap}
 use Rattle.sf_core.specs.Assertions.InOrder.{InOrder, IsNext, IsInOrder, is_known}
 use Rattle.sf_core.specs.Assertions.Sat.{Sat, SatAll, SatOne}
-use Rattle.sf_core.specs.Program.Syntax.{Conjunct, holds, points, segment, tree, choose, Level, level, Conjuncts, none, also}
+use Rattle.sf_core.specs.Program.Syntax.{Conjunct, holds, points, segment, doubly, tree, choose, Level, level, Conjuncts, none, also}
 use Rattle.sf_precise.specs.Order.{IsFirstReady, IsOrder, IsOrderFrom, IsOrderInside, IsOrderWithin}
 use Rattle.sf_precise.specs.Checked.Lemmas.Agree.{first-leaves}
 
@@ -34,6 +34,7 @@ module _ {E : Type 0} (v : E → Value) where
     within-sat known c (holds p t) s h w d = subst (λ z. SatOne z v s h) w d
     within-sat known c (points p x fs) s h w d = subst (λ z. SatOne z v s h) w d
     within-sat known c (segment p next x y) s h w d = subst (λ z. SatOne z v s h) w d
+    within-sat known c (doubly p next back x b z y) s h w d = subst (λ z. SatOne z v s h) w d
     within-sat known c (tree p left right x) s h w d = subst (λ z. SatOne z v s h) w d
     within-sat known c (choose p t this that) s h w d =
         let e : SatOne (choose p t w.0 w.1) v s h = subst (λ z. SatOne z v s h) w.2 d in
@@ -60,6 +61,7 @@ module _ {E : Type 0} (v : E → Value) where
     sat-within known c (holds p t) s h w d = subst (λ z. SatOne z v s h) (sym w) d
     sat-within known c (points p x fs) s h w d = subst (λ z. SatOne z v s h) (sym w) d
     sat-within known c (segment p next x y) s h w d = subst (λ z. SatOne z v s h) (sym w) d
+    sat-within known c (doubly p next back x b z y) s h w d = subst (λ z. SatOne z v s h) (sym w) d
     sat-within known c (tree p left right x) s h w d = subst (λ z. SatOne z v s h) (sym w) d
     sat-within known c (choose p t this that) s h w d =
         subst (λ z. SatOne z v s h) (sym w.2)
@@ -101,6 +103,7 @@ module _ {E : Type 0} where
   plain-one known c (holds p t) n w = w
   plain-one known c (points p x fs) n w = w
   plain-one known c (segment p next x y) n w = w
+  plain-one known c (doubly p next back x b z y) n w = w
   plain-one known c (tree p left right x) n w = w
   plain-one known c (choose p t this that) n w = absurd (n p t w.0 w.1 w.2)
 
@@ -132,6 +135,10 @@ module _ {E : Type 0} where
         sym w
         ∙ plain-one known c u (λ q r this that e. let k : segment p next y z ≡ choose q r this that = sym w
         ∙ e in cc) x
+    within-one known c (doubly p next back y b l z) u w x =
+        sym w
+        ∙ plain-one known c u (λ q r this that e.
+        let k : doubly p next back y b l z ≡ choose q r this that = sym w ∙ e in cc) x
     within-one known c (tree p left right y) u w x =
         sym w
         ∙ plain-one known c u (λ q r this that e. let k : tree p left right y ≡ choose q r this that = sym w
@@ -142,6 +149,8 @@ module _ {E : Type 0} where
         absurd (let k : choose p t w.0 w.1 ≡ points q y fs = sym w.2 ∙ x in cc)
     within-one known c (choose p t this that) (segment q next y z) w x =
         absurd (let k : choose p t w.0 w.1 ≡ segment q next y z = sym w.2 ∙ x in cc)
+    within-one known c (choose p t this that) (doubly q next back y b l z) w x =
+        absurd (let k : choose p t w.0 w.1 ≡ doubly q next back y b l z = sym w.2 ∙ x in cc)
     within-one known c (choose p t this that) (tree q left right y) w x =
         absurd (let k : choose p t w.0 w.1 ≡ tree q left right y = sym w.2 ∙ x in cc)
     within-one known c (choose p t this that) (choose q r these those) w x =
@@ -198,6 +207,7 @@ module _ {E : Type 0} where
     next-taken known (holds p (Differ x y)) i = plain i
     next-taken known (points p x fs) i = plain i
     next-taken known (segment p next x y) i = plain i
+    next-taken known (doubly p next back x b z y) i = plain i
     next-taken known (tree p left right x) i = plain i
     next-taken known (choose p t (level made this) (level other that)) i =
         branches p t made other this that refl i.0 (stands-has (known_inside made known) this i.1)

@@ -7,7 +7,7 @@ use Rattle.std.specs.List.{All}
 use Rattle.std.proofs.lemmas.List.Elements.{All-contains_itself}
 use Rattle.sf_base.specs.declared.place.Place.{Place}
 use Rattle.sf_core.specs.Assertions.Determined.{CanBeTaken, Determined, HasOrder, all_taken, known_after, known_inside, take}
-use Rattle.sf_core.specs.Program.Syntax.{Assertion, Conjunct, holds, points, segment, tree, choose, Level, level, Conjuncts, none, also}
+use Rattle.sf_core.specs.Program.Syntax.{Assertion, Conjunct, holds, points, segment, doubly, tree, choose, Level, level, Conjuncts, none, also}
 use Rattle.sf_core.proofs.Assertions.Orders.{order-first, order-stuck}
 use Rattle.sf_precise.specs.Annotations.{IsFirstPlace, NeverTakenIn, earlier_of}
 use Rattle.sf_precise.specs.Order.{IsOrder, IsOrderOfLevel, IsOrderWithin}
@@ -48,6 +48,7 @@ module _ {E : Type 0} where
     within-found (holds p t) known f = (holds p t, refl)
     within-found (points p x fs) known f = (points p x fs, refl)
     within-found (segment p next x y) known f = (segment p next x y, refl)
+    within-found (doubly p next back x b z y) known f = (doubly p next back x b z y, refl)
     within-found (tree p left right x) known f = (tree p left right x, refl)
     within-found (choose p t (level made this) (level other that)) known f =
         let have = taken-branches known p t (level made this) (level other that) f in

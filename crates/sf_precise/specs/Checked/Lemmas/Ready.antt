@@ -15,9 +15,9 @@ use Rattle.sf_core.specs.Assertions.Determined.{CanBeTaken, HasOrder, IsKnown, I
 use Rattle.sf_core.specs.Assertions.InOrder.{IsSupplied}
 use Rattle.sf_core.specs.Assertions.Occurs.{OccursIn, OccursInAll, OccursInFields, OccursInOne, OccursInTest}
 use Rattle.sf_core.specs.Assertions.Scopes.{is_made_by}
-use Rattle.sf_core.specs.Program.Syntax.{Conjunct, holds, points, segment, tree, choose, Level, level, Conjuncts, none, also}
+use Rattle.sf_core.specs.Program.Syntax.{Conjunct, holds, points, segment, doubly, tree, choose, Level, level, Conjuncts, none, also}
 use Rattle.sf_precise.specs.Order.{IsOrderInside, IsOrderWithin}
-use Rattle.sf_precise.specs.Checked.Outer.{existential, field_existentials, outer_of, outer_of_all, outer_of_level, test_existentials}
+use Rattle.sf_precise.specs.Checked.Outer.{existential, field_existentials, of_four, outer_of, outer_of_all, outer_of_level, test_existentials}
 use Rattle.sf_precise.specs.Checked.Prepared.{IsPrepared}
 use Rattle.sf_precise.specs.Checked.Waits.{need_of, unknown_among, waits_for}
 use Rattle.sf_precise.specs.Checked.Lemmas.Greedy.{order-has, ready-plain, taken-supplied}
@@ -104,6 +104,33 @@ module _ {E : Type 0} where
       either (in-which (existential f.1) (field_existentials fs) n i) (λ j. inl (operand-in f.1 n j))
       (λ j. inr (fields-in fs n j))
 
+  -- one of four operands
+  in-four : (x b z y : Operand E) (n : ℕ) → (Exists n ≡ x) ⊎ ((Exists n ≡ b) ⊎ ((Exists n ≡ z) ⊎ (Exists n ≡ y)))
+      → In (of_four x b z y) n
+  in-four x b z y n (inl e) =
+      in-left (existential x) (existential b ++ (existential z ++ existential y)) n (in-operand x n e)
+  in-four x b z y n (inr (inl e)) =
+      in-right (existential x) (existential b ++ (existential z ++ existential y)) n
+      (in-left (existential b) (existential z ++ existential y) n (in-operand b n e))
+  in-four x b z y n (inr (inr (inl e))) =
+      in-right (existential x) (existential b ++ (existential z ++ existential y)) n
+      (in-right (existential b) (existential z ++ existential y) n
+      (in-left (existential z) (existential y) n (in-operand z n e)))
+  in-four x b z y n (inr (inr (inr e))) =
+      in-right (existential x) (existential b ++ (existential z ++ existential y)) n
+      (in-right (existential b) (existential z ++ existential y) n
+      (in-right (existential z) (existential y) n (in-operand y n e)))
+
+  four-in : (x b z y : Operand E) (n : ℕ) → In (of_four x b z y) n
+      → (Exists n ≡ x) ⊎ ((Exists n ≡ b) ⊎ ((Exists n ≡ z) ⊎ (Exists n ≡ y)))
+  four-in x b z y n i =
+      either (in-which (existential x) (existential b ++ (existential z ++ existential y)) n i)
+      (λ j. inl (operand-in x n j))
+      (λ i. either (in-which (existential b) (existential z ++ existential y) n i)
+      (λ j. inr (inl (operand-in b n j)))
+      (λ i. either (in-which (existential z) (existential y) n i) (λ j. inr (inr (inl (operand-in z n j))))
+      (λ j. inr (inr (inr (operand-in y n j))))))
+
   mutual
     -- the existentials that occur are listed
     pub in-outer : (c : Conjunct E) (n : ℕ) → OccursInOne c (Exists n) → In (outer_of c) n
@@ -112,6 +139,7 @@ module _ {E : Type 0} where
     in-outer (points p x fs) n (inr o) = in-right (existential x) (field_existentials fs) n (in-fields fs n o)
     in-outer (segment p next x y) n (inl e) = in-left (existential x) (existential y) n (in-operand x n e)
     in-outer (segment p next x y) n (inr e) = in-right (existential x) (existential y) n (in-operand y n e)
+    in-outer (doubly p next back x b z y) n o = in-four x b z y n o
     in-outer (tree p left right x) n e = in-operand x n e
     in-outer (choose p t this that) n (inl o) =
         in-left (test_existentials t) (outer_of_level this ++ outer_of_level that) n (in-test t n o)
@@ -141,6 +169,7 @@ module _ {E : Type 0} where
     outer-in (segment p next x y) n i =
         either (in-which (existential x) (existential y) n i) (λ j. inl (operand-in x n j))
         (λ j. inr (operand-in y n j))
+    outer-in (doubly p next back x b z y) n i = four-in x b z y n i
     outer-in (tree p left right x) n i = operand-in x n i
     outer-in (choose p t this that) n i =
         either (in-which (test_existentials t) (outer_of_level this ++ outer_of_level that) n i)
@@ -262,6 +291,30 @@ module _ {E : Type 0} where
         y (λ n i. a n (in-right (existential x) (existential y) n i)),
   )
 
+  known-four : (known : ℕ → Bool) (x b z y : Operand E)
+      → IsKnown known x × IsKnown known b × IsKnown known z × IsKnown known y → (n : ℕ)
+      → In (of_four x b z y) n → known n ≡ true
+  known-four known x b z y k n i =
+      either (in-which (existential x) (existential b ++ (existential z ++ existential y)) n i)
+      (known-operand known x k.0 n)
+      (λ i. either (in-which (existential b) (existential z ++ existential y) n i) (known-operand known b k.1 n)
+      (λ i. known-both known z y k.2 k.3 n i))
+
+  four-known : (known : ℕ → Bool) (x b z y : Operand E) → ((n : ℕ) → In (of_four x b z y) n → known n ≡ true)
+      → IsKnown known x × IsKnown known b × IsKnown known z × IsKnown known y
+  four-known known x b z y a =
+      let rest : (n : ℕ) → In (existential b ++ (existential z ++ existential y)) n → known n ≡ true =
+      λ n i. a n (in-right (existential x) (existential b ++ (existential z ++ existential y)) n i) in
+      let ends : IsKnown known z × IsKnown known y = both-known known z y
+      (λ n i. rest n (in-right (existential b) (existential z ++ existential y) n i)) in (
+        operand-known known x
+            (λ n i. a n (in-left (existential x) (existential b ++ (existential z ++ existential y)) n i)),
+        operand-known known b
+            (λ n i. rest n (in-left (existential b) (existential z ++ existential y) n i)),
+        ends.0,
+        ends.1,
+      )
+
   -- an equality has enough exactly where one of its sides is known
   equal-known : (start known : ℕ → Bool) → KnowsMore start known
       → (p : _) (x y : Operand E) (ordered : Bool) → IsEnough start known (holds p (Equal x y)) ordered
@@ -321,6 +374,8 @@ module _ {E : Type 0} where
       absurd (let c : choose p t this that ≡ points q x fs = w in cc)
   choice-taken known p t this that (segment q next x y) w s =
       absurd (let c : choose p t this that ≡ segment q next x y = w in cc)
+  choice-taken known p t this that (doubly q next back x b z y) w s =
+      absurd (let c : choose p t this that ≡ doubly q next back x b z y = w in cc)
   choice-taken known p t this that (tree q left right x) w s =
       absurd (let c : choose p t this that ≡ tree q left right x = w in cc)
   choice-taken known p t this that (choose q u these those) w s =
@@ -341,6 +396,8 @@ module _ {E : Type 0} where
       plain (operand-known known x (enough-all start known (existential x) (is_some o) m h))
   job-ready start known m (segment p next x y) o i h =
       plain (both-known known x y (enough-all start known (existential x ++ existential y) (is_some o) m h))
+  job-ready start known m (doubly p next back x b z y) o i h =
+      plain (four-known known x b z y (enough-all start known (of_four x b z y) (is_some o) m h))
   job-ready start known m (tree p left right x) o i h =
       plain (operand-known known x (enough-all start known (existential x) (is_some o) m h))
   job-ready start known m (choose p t this that) None i h =
@@ -368,6 +425,9 @@ module _ {E : Type 0} where
       let r : IsReady known (segment p next x y) = ready-plain known (segment p next x y) f
       (λ q t this that e. cc) in
       all-enough start known (existential x ++ existential y) (known-both known x y r.0 r.1)
+  ready-job start known (doubly p next back x b z y) (Some o) i f =
+      all-enough start known (of_four x b z y)
+      (known-four known x b z y (ready-plain known (doubly p next back x b z y) f (λ q t this that e. cc)))
   ready-job start known (tree p left right x) (Some o) i f =
       all-enough start known (existential x)
       (known-operand known x (ready-plain known (tree p left right x) f (λ q t this that e. cc)))
@@ -383,6 +443,7 @@ module _ {E : Type 0} where
   within-plain known more c (holds p t) n w = w
   within-plain known more c (points p x fs) n w = w
   within-plain known more c (segment p next x y) n w = w
+  within-plain known more c (doubly p next back x b z y) n w = w
   within-plain known more c (tree p left right x) n w = w
   within-plain known more c (choose p t this that) n w = absurd (n p t w.0 w.1 w.2)
 
@@ -397,6 +458,9 @@ module _ {E : Type 0} where
       within-plain (λ n. true) known (points p x fs) o (λ q u this that e. cc) (i (λ n. true) (λ n j. refl))
   prepared-within known (segment p next x y) o i f =
       within-plain (λ n. true) known (segment p next x y) o (λ q u this that e. cc)
+      (i (λ n. true) (λ n j. refl))
+  prepared-within known (doubly p next back x b z y) o i f =
+      within-plain (λ n. true) known (doubly p next back x b z y) o (λ q u this that e. cc)
       (i (λ n. true) (λ n j. refl))
   prepared-within known (tree p left right x) o i f =
       within-plain (λ n. true) known (tree p left right x) o (λ q u this that e. cc)

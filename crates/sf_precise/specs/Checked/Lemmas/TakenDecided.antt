@@ -7,7 +7,7 @@ use Rattle.sf_core.specs.declared.assertion.Test.TheVariants.{True, Equal, Diffe
 use Rattle.sf_core.proofs.Assertions.Orders.{order-first, order-stuck}
 use Rattle.sf_core.specs.Assertions.Determined.{CanBeTaken, HasOrder, IsKnown, IsReady, Leaves, all_taken, branches, known_after, known_inside, plain, take}
 use Rattle.sf_core.specs.Assertions.InOrder.{IsSupplied}
-use Rattle.sf_core.specs.Program.Syntax.{Conjunct, holds, points, segment, tree, choose, Level, level, Conjuncts, none, also}
+use Rattle.sf_core.specs.Program.Syntax.{Conjunct, holds, points, segment, doubly, tree, choose, Level, level, Conjuncts, none, also}
 use Rattle.sf_precise.specs.Order.{IsFirstReady}
 use Rattle.sf_precise.specs.Checked.Outer.{outer_of}
 use Rattle.sf_precise.specs.Taken.{IsAmong}
@@ -30,6 +30,13 @@ decided-both : {P Q : Type 0} → IsDecided P → IsDecided Q → IsDecided (P �
 decided-both (inl p) (inl q) = inl (p, q)
 decided-both (inl p) (inr n) = inr (λ h. n h.1)
 decided-both (inr n) q = inr (λ h. n h.0)
+
+-- four facts
+decided-four : {P Q R S : Type 0} → IsDecided P → IsDecided Q → IsDecided R → IsDecided S
+    → IsDecided (P × Q × R × S)
+decided-four {P} {Q} {R} {S} p q r s =
+    decided-like {P = P × (Q × (R × S))} {Q = P × Q × R × S} (λ h. (h.0, h.1.0, h.1.1.0, h.1.1.1))
+    (λ h. (h.0, (h.1, (h.2, h.3)))) (decided-both p (decided-both q (decided-both r s)))
 
 -- one of two facts
 decided-either : {P Q : Type 0} → IsDecided P → IsDecided Q → IsDecided (P ⊎ Q)
@@ -69,6 +76,8 @@ module _ {E : Type 0} where
   decided-ready known (holds p (Differ x y)) = decided-both (decided-known known x) (decided-known known y)
   decided-ready known (points p x fs) = decided-known known x
   decided-ready known (segment p next x y) = decided-both (decided-known known x) (decided-known known y)
+  decided-ready known (doubly p next back x b z y) =
+      decided-four (decided-known known x) (decided-known known b) (decided-known known z) (decided-known known y)
   decided-ready known (tree p left right x) = decided-known known x
   decided-ready known (choose p t this that) = inr (λ h. h)
 

@@ -11,8 +11,8 @@ use Rattle.sf_rules.proofs.Firsts.{own_firsts-below, own_firsts-order}
 use Rattle.sf_sym.specs.State.{first_state}
 use Rattle.sf_rules.proofs.start.first_state.Goals as goal
 
-pub new-state-requires : goal.new-state-requires
-new-state-requires c =
+pub new-requires : goal.new-requires
+new-requires c =
     let parameters = c.args.procedure.now.references + c.args.procedure.now.values in
     record {
       order = own_firsts-order _ parameters c.len.result c.in_ok-vars.ensures;
@@ -28,7 +28,7 @@ returns c =
     let held : c.deref.result.now
     ≡ flat_map (variables_of p) (get_or c.args.arranged.now.calls.holds c.args.f.0 []) = c.deref.ensures.value
     ∙ c.in_ok-held.ensures.variables in
-    let state : c.new-state.result ≡ first_state (links_of p) (own_vars g) (g.references + g.values) =
+    let state : c.in_ok-state.state ≡ first_state (links_of p) (own_vars g) (g.references + g.values) =
     search rules in
     IfOk-weaker c.with_held.result _ _ (λ after e. e ∙ (λ i. with_held (sets_up i) (held i) (state i)))
     c.with_held.ensures

@@ -14,7 +14,7 @@ use Rattle.sf_core.specs.declared.assertion.Test.{Test}
 use Rattle.sf_core.specs.declared.assertion.Test.TheVariants.{True, Equal, Differ}
 use Rattle.sf_core.specs.declared.command.Expr.{Expr}
 use Rattle.sf_core.specs.Program.Formed.{ConjunctWithin, ConjunctsWithin, FieldsWithin, LevelWithin, OperandWithin, TestWithin, is_made}
-use Rattle.sf_core.specs.Program.Syntax.{Conjunct, holds, points, segment, tree, choose, Conjuncts, none, also, Level, level}
+use Rattle.sf_core.specs.Program.Syntax.{Conjunct, holds, points, segment, doubly, tree, choose, Conjuncts, none, also, Level, level}
 
 module _ (fields : List (List ℕ)) (V : Var → Type 0) (n : ℕ) where
   operand-exists : (made : List Scope) (x : Operand Expr) → OperandWithin V made x → Exists n ≡ x
@@ -26,6 +26,13 @@ module _ (fields : List (List ℕ)) (V : Var → Type 0) (n : ℕ) where
       → (Exists n ≡ x) ⊎ (Exists n ≡ y) → is_made made n ≡ true
   two-exist made x y w v (inl i) = operand-exists made x w i
   two-exist made x y w v (inr i) = operand-exists made y v i
+
+  four-exist : (made : List Scope) (x b l y : Operand Expr) → OperandWithin V made x → OperandWithin V made b
+      → OperandWithin V made l → OperandWithin V made y
+      → (Exists n ≡ x) ⊎ ((Exists n ≡ b) ⊎ ((Exists n ≡ l) ⊎ (Exists n ≡ y))) → is_made made n ≡ true
+  four-exist made x b l y w v u t (inl i) = operand-exists made x w i
+  four-exist made x b l y w v u t (inr (inl i)) = operand-exists made b v i
+  four-exist made x b l y w v u t (inr (inr i)) = two-exist made l y u t i
 
   test-exists : (made : List Scope) (t : Test (Operand Expr)) → TestWithin (OperandWithin V made) t
       → OccursInTest t (Exists n) → is_made made n ≡ true
@@ -60,6 +67,8 @@ module _ (fields : List (List ℕ)) (V : Var → Type 0) (n : ℕ) where
     conjunct-exists made (points q x fs) w (inl i) = operand-exists made x w.0 i
     conjunct-exists made (points q x fs) w (inr o) = fields-exist made fs w.1 o
     conjunct-exists made (segment q next x y) w o = two-exist made x y w.1 w.2 o
+    conjunct-exists made (doubly q next back x b l y) w o =
+        four-exist made x b l y w.2 w.3 w.4 w.5 o
     conjunct-exists made (tree q left right x) w o = operand-exists made x w.2 o
     conjunct-exists made (choose q t this that) w (inl o) = test-exists made t w.0 o
     conjunct-exists made (choose q t this that) w (inr (inl o)) = level-exists made this w.1 o

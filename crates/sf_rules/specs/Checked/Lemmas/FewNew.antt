@@ -8,7 +8,7 @@ use Rattle.sf_consume.specs.Subtract.{new_symbols}
 use Rattle.sf_core.specs.declared.assertion.Operand.{Operand}
 use Rattle.sf_core.specs.declared.assertion.Operand.TheVariants.{Known, Exists}
 use Rattle.sf_core.specs.declared.fields.Links.{Links}
-use Rattle.sf_core.specs.Program.Syntax.{holds, points, segment, tree, choose, Conjuncts, none, also}
+use Rattle.sf_core.specs.Program.Syntax.{holds, points, segment, doubly, tree, choose, Conjuncts, none, also}
 use Rattle.sf_produce.specs.Add.{operands}
 use Rattle.sf_rules.specs.declared.few.TheConstants.{TOO_MANY}
 use Rattle.sf_sym.specs.declared.term.Term.{Term}
@@ -32,6 +32,7 @@ few-operands links count (also (holds q t) cs) f = omega arith
 few-operands links count (also (points q x fs) cs) f =
     let l : length fs ≤ FIELDS = f.0.2 in omega (arith, l, few-one x, few-existentials fs)
 few-operands links count (also (segment q next x y) cs) f = omega arith
+few-operands links count (also (doubly q next back x b l y) cs) f = omega arith
 few-operands links count (also (tree q left right x) cs) f = omega arith
 few-operands links count (also (choose q t this that) cs) f = omega arith
 
@@ -42,5 +43,6 @@ few-new_symbols links count (also (holds q t) cs) f = omega arith
 few-new_symbols links count (also (points q x fs) cs) f =
     let l : length fs ≤ FIELDS = f.0.2 in omega (arith, l, few-existentials fs)
 few-new_symbols links count (also (segment q next x y) cs) f = omega arith
+few-new_symbols links count (also (doubly q next back x b l y) cs) f = omega arith
 few-new_symbols links count (also (tree q left right x) cs) f = omega arith
 few-new_symbols links count (also (choose q t this that) cs) f = omega arith

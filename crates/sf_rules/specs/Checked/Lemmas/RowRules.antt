@@ -9,19 +9,19 @@ use Rattle.std.proofs.lemmas.Option.{cond_some, option_and_then_some, same_Some}
 use Rattle.sf_base.specs.declared.ids.FieldId.{FieldId}
 use Rattle.sf_base.specs.declared.place.Place.{Place}
 use Rattle.sf_calls.specs.Changes.{changed}
-use Rattle.sf_consume.specs.Subtract.{Fit, Want, apart_step, bind_step, binding, both, cell_step, empty_step, exact_step, exact_there, fit_fields, fitting, handed_cell, head_step, is_same_shape, join_step, joined, link, node_step, one_binding, removed, same_step, unbound, wanted_shape}
+use Rattle.sf_consume.specs.Subtract.{Fit, Want, apart_step, bind_step, binding, both, cell_step, double_joined, empty_step, exact_step, exact_there, fit_fields, fit_known, fitting, four, handed_cell, head_step, is_same_shape, join_step, joined, link, node_step, one_binding, removed, same_step, unbound, wanted_shape}
 use Rattle.sf_consume.specs.Wants.{still_wanted}
 use Rattle.sf_core.specs.declared.assertion.Operand.{Operand}
 use Rattle.sf_core.specs.declared.assertion.Operand.TheVariants.{Known}
 use Rattle.sf_core.specs.declared.assertion.Test.TheVariants.{True, Equal, Differ}
-use Rattle.sf_core.specs.Program.Syntax.{Conjunct, Conjuncts, also, holds, points, segment, tree, choose, assign, look_up, mutate, new, dispose, if, while, call, fork, with}
-use Rattle.sf_normal.specs.Knowledge.{absurd_row, drop_row, force_row, split_row, unroll_row, unroll_one, unrolled_segment, unrolled_tree}
+use Rattle.sf_core.specs.Program.Syntax.{Conjunct, Conjuncts, also, holds, points, segment, doubly, tree, choose, assign, look_up, mutate, new, dispose, if, while, call, fork, with}
+use Rattle.sf_normal.specs.Knowledge.{absurd_row, back_one, back_row, drop_row, force_row, split_row, unroll_row, unroll_one, unrolled_double, unrolled_last, unrolled_segment, unrolled_tree}
 use Rattle.sf_produce.specs.Add.{met, met_fields}
 use Rattle.sf_rules.specs.declared.few.TheConstants.{TOO_MANY}
 use Rattle.sf_rules.specs.Checked.Lemmas.FreshVariables.{fresh-length}
-use Rattle.sf_rules.specs.Checked.Lemmas.RowParts.{and-both, not-true, cond-then, mapped, tests-apart, forced-spans, nothing-spans, shape-same, cell-atom, both-terms, link-field, fit-fits, met-meets, states-then, fields-meet, unbound-is, first-one}
+use Rattle.sf_rules.specs.Checked.Lemmas.RowParts.{and-both, not-true, cond-then, mapped, tests-apart, forced-spans, is-nothing, shape-same, shape-wanted, cell-atom, both-terms, four-wanted, known-is, link-field, fit-fits, met-meets, states-then, fields-meet, unbound-is, first-left, first-one}
 use Rattle.sf_rules.specs.Checked.Lemmas.RuleRows.{fields-same, fit}
-use Rattle.sf_rules.specs.Rules.{has_numbers, Leaves, Rule, Spans, list_spans, tree_spans, Goes, command_goes, assumed_goes, shown_goes, Meets, has, met_first, MeetsAll, all_met, one_met, FieldIs, known, missing, Fits, all_fit, fits_known, fits_new, Wanted, list_wanted, tree_wanted, needed, needed_to_assume, needed_to_show, next_at, assume, assume_rest, show, show_rest, ◌⊢◌}
+use Rattle.sf_rules.specs.Rules.{has_numbers, Leaves, Rule, Goes, command_goes, assumed_goes, shown_goes, Meets, has, met_first, MeetsAll, all_met, one_met, FieldIs, known, missing, Fits, all_fit, fits_known, fits_new, Wanted, needed, needed_to_assume, needed_to_show, next_at, assume, assume_rest, show, show_rest, ◌⊢◌}
 use Rattle.sf_rules.specs.Checked.Rows.Add.{assume_row}
 use Rattle.sf_rules.specs.Checked.Rows.Branches.{branch_row, chosen}
 use Rattle.sf_rules.specs.Checked.Rows.Calls.{call_row, called, fork_row, forked, give_row}
@@ -40,7 +40,7 @@ use Rattle.sf_sym.specs.Cells.{atom_at, cell_at, handed, state_after_write, with
 use Rattle.sf_sym.specs.Checked.Lemmas.{same_term_is}
 use Rattle.sf_sym.specs.Decided.{command_test, is_decided, term_of, test_of_terms}
 use Rattle.sf_sym.specs.declared.atom.Atom.{Atom}
-use Rattle.sf_sym.specs.declared.atom.Atom.TheVariants.{Points, Ls, Tree}
+use Rattle.sf_sym.specs.declared.atom.Atom.TheVariants.{Points, Ls, Tree, Dll}
 use Rattle.sf_sym.specs.declared.atom.Numbered.{Numbered}
 use Rattle.sf_sym.specs.declared.tag.Tag.{Tag}
 use Rattle.sf_sym.specs.declared.tag.Tag.TheVariants as tag
@@ -76,8 +76,7 @@ module _ (d : Setting) (s : State) (left : List Goal) where
       → Rule d s todo (tag.Drop a) left
   drop-rule todo a e = option_and_then_some _ (atom_at s.atoms a) left e (λ x there k.
       let b = cond_some (is_nothing x) _ left k in
-      let n = nothing-spans x b.0 in
-      leaves _ left b.1 (rule.drop there n.1))
+      leaves _ left b.1 (rule.drop there (is-nothing x b.0)))
 
   force-rule : (todo : List Item) (a : ℕ) → force_row (s ⊢ todo) a ≡ Some left
       → Rule d s todo (tag.Force a) left
@@ -85,8 +84,10 @@ module _ (d : Setting) (s : State) (left : List Goal) where
       mapped (λ (v : Term × Term). assumed_equal v.0 v.1 (s ⊢ todo) ∷ [])
       (option_and_then (forced_pair s a) (atom_at s.atoms a)) left e (λ v there k.
       option_and_then_some (forced_pair s a) (atom_at s.atoms a) v there (λ x at is.
-      let f = forced-spans s a x v is in
-      leaves _ left k (rule.force at f.0 (tests-apart v.0 v.1 f.1) f.2)))
+      elim (forced-spans s a x v is) [
+        | inl f ↦ leaves _ left k (rule.force at f.0 (tests-apart v.0 v.1 f.1) f.2)
+        | inr f ↦ leaves _ left k (rule.force_ends (at ∙ ap Some f.1) (tests-apart v.0 v.1 f.2))
+      ]))
 
   split-rule : (todo : List Item) (t u : Term) → split_row (s ⊢ todo) t u ≡ Some left
       → Rule d s todo (tag.Split t u) left
@@ -120,6 +121,28 @@ module _ (d : Setting) (s : State) (left : List Goal) where
   tree-links todo a t there differ (Some one) (Some two) l r k =
       leaves _ left (same_Some _ left k) (rule.unroll_tree there differ l r)
 
+  double-links : (todo : List Item) (a : ℕ) (t p l u : Term) → atom_at s.atoms a ≡ Some (Dll t p l u)
+      → differs s t u ≡ true
+      → (o q : Option FieldId) → s.links.tl ≡ o → s.links.pv ≡ q
+      → option_map (λ z. (z ⊢ todo) ∷ [])
+      (unrolled_double o q t p l u (record s { atoms = without s.atoms a })) ≡ Some left
+      → Rule d s todo (tag.Unroll a) left
+  double-links todo a t p l u there differ None q tl pv k = absurd (cc)
+  double-links todo a t p l u there differ (Some next) None tl pv k = absurd (cc)
+  double-links todo a t p l u there differ (Some next) (Some previous) tl pv k =
+      leaves _ left (same_Some _ left k) (rule.unroll_double there differ tl pv)
+
+  last-links : (todo : List Item) (a : ℕ) (t p l u : Term) → atom_at s.atoms a ≡ Some (Dll t p l u)
+      → differs s t u ≡ true
+      → (o q : Option FieldId) → s.links.tl ≡ o → s.links.pv ≡ q
+      → option_map (λ z. (z ⊢ todo) ∷ [])
+      (unrolled_last o q t p l u (record s { atoms = without s.atoms a })) ≡ Some left
+      → Rule d s todo (tag.Back a) left
+  last-links todo a t p l u there differ None q tl pv k = absurd (cc)
+  last-links todo a t p l u there differ (Some next) None tl pv k = absurd (cc)
+  last-links todo a t p l u there differ (Some next) (Some previous) tl pv k =
+      leaves _ left (same_Some _ left k) (rule.back there differ tl pv)
+
   unroll-rule : (todo : List Item) (a : ℕ) → unroll_row (s ⊢ todo) a ≡ Some left
       → Rule d s todo (tag.Unroll a) left
   unroll-rule todo a e = option_and_then_some _ (atom_at s.atoms a) left e go
@@ -133,6 +156,22 @@ module _ (d : Setting) (s : State) (left : List Goal) where
       go (Tree t) there k =
           let b = cond-then (differs s t Nil) _ left k in
           tree-links todo a t there b.0 s.links.l s.links.r refl refl b.1
+      go (Dll t p l u) there k =
+          let b = cond-then (differs s t u) _ left k in
+          double-links todo a t p l u there b.0 s.links.tl s.links.pv refl refl b.1
+
+  back-rule : (todo : List Item) (a : ℕ) → back_row (s ⊢ todo) a ≡ Some left
+      → Rule d s todo (tag.Back a) left
+  back-rule todo a e = option_and_then_some _ (atom_at s.atoms a) left e go
+    where
+      go : (x : Atom) → atom_at s.atoms a ≡ Some x → back_one (s ⊢ todo) a x ≡ Some left
+          → Rule d s todo (tag.Back a) left
+      go (Points t fs) there k = absurd (cc)
+      go (Ls t u) there k = absurd (cc)
+      go (Tree t) there k = absurd (cc)
+      go (Dll t p l u) there k =
+          let b = cond-then (differs s t u) _ left k in
+          last-links todo a t p l u there b.0 s.links.tl s.links.pv refl refl b.1
 
   -- COMMANDS
   assign-rule : (todo : List Item) → at_command (assign_row s) todo ≡ Some left
@@ -377,6 +416,22 @@ module _ (d : Setting) (s : State) (left : List Goal) where
             ∙ same_Some _ left k) (rule.add_list are.0 are.1),
         refl,
       )
+  add-conjuncts p (also (doubly q next back x b l y) cs) terms rest k =
+      let one = met s terms x in
+      let two = met one.state one.bindings b in
+      let three = met two.state two.bindings l in
+      let four = met three.state three.bindings y in
+      let first = met-both terms x b in
+      let second = met-meets two.state two.bindings l in
+      let third = met-meets three.state three.bindings y in
+      let state = states-then s two.state four.state first.2
+      (states-then two.state three.state four.state second.1 third.1) in (
+        leaves _ left
+            (ap (λ z. (with_atom (Dll one.term two.term three.term four.term) z
+            ⊢ assume_rest p cs four.bindings ++ rest) ∷ []) state
+            ∙ same_Some _ left k) (rule.add_double first.0 first.1 second.0 third.0),
+        refl,
+      )
   add-conjuncts p (also (tree q l r x) cs) terms rest k =
       let one = met s terms x in
       let root = met-meets s terms x in (
@@ -504,54 +559,51 @@ module _ (d : Setting) (s : State) (left : List Goal) where
       )
   cell-conjuncts p _ terms names rest a k = absurd (cc)
 
+  -- a wanted segment or tree is nothing
+  empty-shape : (p : Place) (c : Conjunct Term) (cs : Conjuncts Term) (terms : List (Option Term))
+      (names : List (List ℕ)) (rest : List Item)
+      → option_and_then (λ w. one_goal w.state (taking p (still_wanted w) names ++ rest))
+      (empty_step s terms c cs) ≡ Some left
+      → Rule d s (show p (also c cs) terms names ∷ rest) tag.Empty left
+  empty-shape p c cs terms names rest k =
+      one-left p names rest (empty_step s terms c cs) k _ (λ w step is.
+      option_and_then_some _ (wanted_shape terms c) w step (λ z at j.
+      let b = cond_some (is_nothing z) (removed s terms cs) w j in
+      leaves _ left (left-as p names rest _ w b.1 is)
+      (rule.empty (shape-wanted terms c z at) (is-nothing z b.0))))
+
   empty-conjuncts : Shown tag.Empty
   empty-conjuncts p (also (segment q next x y) cs) terms names rest k =
-      one-left p names rest (empty_step s terms (segment q next x y) cs) k _ (λ w step is.
-      option_and_then_some _ (both terms x y) w step (λ e at j.
-      let are = both-terms terms x y e at in
-      let b = cond_some (same_term e.0 e.1) (removed s terms cs) w j in
-      leaves _ left (left-as p names rest _ w b.1 is)
-      (rule.empty (list_wanted are.0 (are.1 ∙ ap Some (sym (same_term_is e.0 e.1 b.0))))
-      (list_spans {t = e.0} {u = e.0}))))
+      empty-shape p (segment q next x y) cs terms names rest k
+  empty-conjuncts p (also (doubly q next back x b l y) cs) terms names rest k =
+      empty-shape p (doubly q next back x b l y) cs terms names rest k
   empty-conjuncts p (also (tree q l r x) cs) terms names rest k =
-      one-left p names rest (empty_step s terms (tree q l r x) cs) k _ (λ w step is.
-      option_and_then_some _ (both terms x (Known Nil)) w step (λ e at j.
-      let are = both-terms terms x (Known Nil) e at in
-      let b = cond_some (same_term e.0 e.1) (removed s terms cs) w j in
-      let nil : e.0 ≡ Nil = same_term_is e.0 e.1 b.0 ∙ sym (same_Some Nil e.1 are.1) in
-      leaves _ left (left-as p names rest _ w b.1 is)
-      (rule.empty (tree_wanted (are.0 ∙ ap Some nil)) (tree_spans {t = Nil}))))
+      empty-shape p (tree q l r x) cs terms names rest k
   empty-conjuncts p (also (points q x ws) cs) terms names rest k =
       let few = cond-then (nat_lt (existentials_in ws) TOO_MANY) None left k in absurd (cc few.1)
   empty-conjuncts p _ terms names rest k = absurd (cc)
 
   -- a wanted segment or tree is that atom
-  exact-atom : (p : Place) (c : Conjunct Term) (cs : Conjuncts Term) (terms : List (Option Term))
-      (names : List (List ℕ))
-      (rest : List Item) (a : ℕ) (wanted : Atom) (w : Want) → Wanted terms c wanted
-      → exact_there a s terms cs wanted ≡ Some w
-      → (w.state ⊢ taking p (still_wanted w) names ++ rest) ∷ [] ≡ left
+  exact-shape : (p : Place) (c : Conjunct Term) (cs : Conjuncts Term) (terms : List (Option Term))
+      (names : List (List ℕ)) (rest : List Item) (a : ℕ)
+      → option_and_then (λ w. one_goal w.state (taking p (still_wanted w) names ++ rest))
+      (exact_step a s terms c cs) ≡ Some left
       → Rule d s (show p (also c cs) terms names ∷ rest) (tag.Exact a) left
-  exact-atom p c cs terms names rest a wanted w one e is =
-      option_and_then_some _ (atom_at s.atoms a) w e (λ x there j.
-      let b = cond_some (is_same_shape x wanted) (removed (handed s a x) terms cs) w j in
+  exact-shape p c cs terms names rest a k =
+      one-left p names rest (exact_step a s terms c cs) k _ (λ w step is.
+      option_and_then_some (exact_there a s terms cs) (wanted_shape terms c) w step (λ z at j.
+      option_and_then_some _ (atom_at s.atoms a) w j (λ x there i.
+      let b = cond_some (is_same_shape x z) (removed (handed s a x) terms cs) w i in
       leaves _ left (left-as p names rest _ w b.1 is)
-      (rule.exact (subst (Wanted terms c) (sym (shape-same x wanted b.0)) one) there))
+      (rule.exact (subst (Wanted terms c) (sym (shape-same x z b.0)) (shape-wanted terms c z at)) there))))
 
   exact-conjuncts : (a : ℕ) → Shown (tag.Exact a)
   exact-conjuncts a p (also (segment q next x y) cs) terms names rest k =
-      one-left p names rest (exact_step a s terms (segment q next x y) cs) k _ (λ w step is.
-      option_and_then_some _ (wanted_shape terms (segment q next x y)) w step (λ z at j.
-      mapped _ (both terms x y) z at (λ e are made.
-      let ends = both-terms terms x y e are in
-      exact-atom p (segment q next x y) cs terms names rest a z w
-      (subst (Wanted terms (segment q next x y)) made (list_wanted ends.0 ends.1)) j is)))
+      exact-shape p (segment q next x y) cs terms names rest a k
+  exact-conjuncts a p (also (doubly q next back x b l y) cs) terms names rest k =
+      exact-shape p (doubly q next back x b l y) cs terms names rest a k
   exact-conjuncts a p (also (tree q l r x) cs) terms names rest k =
-      one-left p names rest (exact_step a s terms (tree q l r x) cs) k _ (λ w step is.
-      option_and_then_some _ (wanted_shape terms (tree q l r x)) w step (λ z at j.
-      mapped _ (term_of terms x) z at (λ t one made.
-      exact-atom p (tree q l r x) cs terms names rest a z w
-      (subst (Wanted terms (tree q l r x)) made (tree_wanted one)) j is)))
+      exact-shape p (tree q l r x) cs terms names rest a k
   exact-conjuncts a p (also (points q x ws) cs) terms names rest k =
       let few = cond-then (nat_lt (existentials_in ws) TOO_MANY) None left k in absurd (cc few.1)
   exact-conjuncts a p _ terms names rest k = absurd (cc)
@@ -559,13 +611,29 @@ module _ (d : Setting) (s : State) (left : List Goal) where
   head-conjuncts : (a : ℕ) → Shown (tag.Head a)
   head-conjuncts a p (also (segment q next x y) cs) terms names rest k =
       one-left p names rest (head_step a s terms (segment q next x y) cs) k _ (λ w step is.
-      option_and_then_some _ (both terms x y) w step (λ e at j.
+      option_and_then_some _ (both terms x y) w (first-left _ w step) (λ e at j.
       let ends = both-terms terms x y e at in
       let differ = cond-then (differs s e.0 e.1) _ w j in
       mapped _ (cell_at s.atoms a e.0) w differ.1 (λ fs found made.
       leaves _ left (left-as p names rest _ w made is)
       (rule.head ends.0 ends.1
       (cell-atom s.atoms a e.0 fs found) differ.0 (link-field s.next_sym fs next terms).0))))
+  head-conjuncts a p (also (doubly q next back x b l y) cs) terms names rest k =
+      one-left p names rest (head_step a s terms (doubly q next back x b l y) cs) k _ (λ w step is.
+      option_and_then_some _ (four terms x b l y) w step (λ e at j.
+      let differ = cond-then (differs s e.0 e.3) _ w j in
+      mapped _ _ w differ.1 (λ r found made.
+      option_and_then_some _ (cell_at s.atoms a e.0) r found (λ fs here i.
+      mapped _ (fit_known (fit s.next_sym fs terms) (field_term fs back) e.1) r i (λ f same made_so.
+      let known = known-is (fit s.next_sym fs terms) f (field_term fs back) e.1 same in
+      let linked : link (fit s.next_sym fs terms) next ≡ r = ap (λ z. link z next) known.1 ∙ made_so in
+      leaves _ left
+      (ap (λ (z : Fit × Term). (handed_cell s e.0 a z.0 ⊢ show_rest p
+      (also (doubly q next back (Known z.1) (Known e.0) (Known e.2) (Known e.3)) cs) terms names ++ rest)
+      ∷ []) linked
+      ∙ left-as p names rest _ w made is)
+      (rule.head_double (four-wanted terms q next back x b l y e at) (cell-atom s.atoms a e.0 fs here)
+      differ.0 known.0 (link-field s.next_sym fs next terms).0))))))
   head-conjuncts a p (also (points q x ws) cs) terms names rest k =
       let few = cond-then (nat_lt (existentials_in ws) TOO_MANY) None left k in absurd (cc few.1)
   head-conjuncts a p _ terms names rest k = absurd (cc)
@@ -591,15 +659,50 @@ module _ (d : Setting) (s : State) (left : List Goal) where
       (rule.join one two (there ∙ ap Some (sym is)) c.1)
   join-atom p q names terms rest next x y t u v cs a _ one two there e = absurd (cc)
 
+  double_join-atom : (p q : Place) (names : List (List ℕ)) (terms : List (Option Term))
+      (rest : List Item) (next back : FieldId)
+      (x b l y : Operand Term) (e : Term × Term × Term × Term) (v : Term × Term)
+      (cs : Conjuncts Term) (a : ℕ) (z : Atom)
+      → Wanted terms (doubly q next back x b l y) (Dll e.0 e.1 e.2 e.3) → atom_at s.atoms a ≡ Some z
+      → double_joined s a e.0 e.1 e.3 z ≡ Some v
+      → Rule d s (show p (also (doubly q next back x b l y) cs) terms names ∷ rest) (tag.Join a)
+      ((handed s a z ⊢ show_rest p
+      (also (doubly q next back (Known v.0) (Known v.1) (Known e.2) (Known e.3)) cs) terms names
+      ++ rest) ∷ [])
+  double_join-atom p q names terms rest next back x b l y e v cs a (Dll t r m w) wanted there k =
+      let c = cond_some _ (w, m) v k in
+      let one = and-both (same_term t e.0) _ c.0 in
+      let two = and-both (same_term r e.1) _ one.1 in
+      let from : t ≡ e.0 = same_term_is t e.0 one.0 in
+      let before : r ≡ e.1 = same_term_is r e.1 two.0 in
+      let to : w ≡ v.0 = ap (λ (z : Term × Term). z.0) c.1 in
+      let last : m ≡ v.1 = ap (λ (z : Term × Term). z.1) c.1 in
+      let is : Dll e.0 e.1 v.1 v.0 ≡ Dll t r m w = cc in
+      leaves _ _
+      (ap (λ z.
+      (handed s a z ⊢ show_rest p
+      (also (doubly q next back (Known v.0) (Known v.1) (Known e.2) (Known e.3)) cs) terms names
+      ++ rest) ∷ []) is)
+      (rule.join_double wanted (there ∙ ap Some (sym is)) two.1)
+  double_join-atom p q names terms rest next back x b l y e v cs a _ wanted there k = absurd (cc)
+
   join-conjuncts : (a : ℕ) → Shown (tag.Join a)
   join-conjuncts a p (also (segment q next x y) cs) terms names rest k =
       one-left p names rest (join_step a s terms (segment q next x y) cs) k _ (λ w step is.
-      option_and_then_some _ (both terms x y) w step (λ e at j.
+      option_and_then_some _ (both terms x y) w (first-left _ w step) (λ e at j.
       let ends = both-terms terms x y e at in
       option_and_then_some _ (atom_at s.atoms a) w j (λ z there i.
       mapped _ (joined s a e.0 e.1 z) w i (λ v goes made.
       leaves _ left (left-as p names rest _ w made is)
       (join-atom p q names terms rest next x y e.0 e.1 v cs a z ends.0 ends.1 there goes)))))
+  join-conjuncts a p (also (doubly q next back x b l y) cs) terms names rest k =
+      one-left p names rest (join_step a s terms (doubly q next back x b l y) cs) k _ (λ w step is.
+      option_and_then_some _ (four terms x b l y) w step (λ e at j.
+      option_and_then_some _ (atom_at s.atoms a) w j (λ z there i.
+      mapped _ (double_joined s a e.0 e.1 e.3 z) w i (λ v goes made.
+      leaves _ left (left-as p names rest _ w made is)
+      (double_join-atom p q names terms rest next back x b l y e v cs a z
+      (four-wanted terms q next back x b l y e at) there goes)))))
   join-conjuncts a p (also (points q x ws) cs) terms names rest k =
       let few = cond-then (nat_lt (existentials_in ws) TOO_MANY) None left k in absurd (cc few.1)
   join-conjuncts a p _ terms names rest k = absurd (cc)
@@ -638,6 +741,7 @@ row-rule d s todo (tag.Drop a) left e = (drop-rule d s left todo a e, refl)
 row-rule d s todo (tag.Force a) left e = (force-rule d s left todo a e, refl)
 row-rule d s todo (tag.Split t u) left e = (split-rule d s left todo t u e, refl)
 row-rule d s todo (tag.Unroll a) left e = (unroll-rule d s left todo a e, refl)
+row-rule d s todo (tag.Back a) left e = (back-rule d s left todo a e, refl)
 row-rule d s todo tag.Assign left e = (assign-rule d s left todo e, refl)
 row-rule d s todo (tag.Look a) left e = (look-rule d s left todo a e, refl)
 row-rule d s todo (tag.Mutate a) left e = (mutate-rule d s left todo a e, refl)

@@ -15,7 +15,7 @@ use Rattle.sf_rules.specs.declared.few.TheConstants.{TOO_MANY}
 use Rattle.sf_rules.specs.Checked.Rows.Branches.{branch_row}
 use Rattle.sf_rules.specs.Checked.Rows.Whole.{row, row_of}
 use Rattle.sf_rules.specs.Rules as rule
-use Rattle.sf_rules.specs.Rules.{Leaves, Rule, Spans, list_spans, tree_spans, Goes, command_goes, assumed_goes, shown_goes, Meets, has, met_first, MeetsAll, all_met, one_met, FieldIs, known, missing, Fits, all_fit, fits_known, fits_new, list_wanted, tree_wanted, needed, next_at, ◌⊢◌}
+use Rattle.sf_rules.specs.Rules.{Leaves, Rule, IsNothing, no_list, no_tree, no_double, Spans, list_spans, tree_spans, double_spans, Goes, command_goes, assumed_goes, shown_goes, Meets, has, met_first, MeetsAll, all_met, one_met, FieldIs, known, missing, Fits, all_fit, fits_known, fits_new, list_wanted, double_wanted, tree_wanted, needed, next_at, ◌⊢◌}
 use Rattle.sf_rules.specs.Setting.{Setting}
 use Rattle.sf_sym.specs.Cells.{atom_at, cell_at, fields_at, with_fields}
 use Rattle.sf_sym.specs.Checked.Lemmas.{same_term_is}
@@ -25,7 +25,7 @@ use Rattle.sf_sym.specs.Goal.{Goal, Item}
 use Rattle.sf_sym.specs.State.{State}
 use Rattle.sf_sym.specs.Variables.{fresh_for}
 use Rattle.sf_sym.specs.declared.atom.Atom.{Atom}
-use Rattle.sf_sym.specs.declared.atom.Atom.TheVariants.{Points}
+use Rattle.sf_sym.specs.declared.atom.Atom.TheVariants.{Points, Dll}
 use Rattle.sf_sym.specs.declared.atom.Numbered.{Numbered}
 use Rattle.sf_sym.specs.declared.tag.Tag.{Tag}
 use Rattle.sf_sym.specs.declared.term.Term.{Term}
@@ -52,10 +52,16 @@ spans-forced : (s : State) (a : ℕ) (x : Atom) (t u : Term) → Spans x t u →
     → is_elsewhere s a t ≡ true → forced_pair s a x ≡ Some (t, u)
 spans-forced s a _ _ _ list_spans e f = rw (e, f) refl
 spans-forced s a _ _ _ tree_spans e f = rw (e, f) refl
+spans-forced s a _ _ _ double_spans e f = rw (e, f) refl
 
-spans-nothing : (x : Atom) (t u : Term) → Spans x t u → t ≡ u → is_nothing x ≡ true
-spans-nothing _ _ _ (list_spans {t = t} {u = u}) e = terms-same t u e
-spans-nothing _ _ _ (tree_spans {t = t}) e = terms-same t Nil e
+ends-forced : (s : State) (a : ℕ) (t p l : Term) → same_term p l ≡ false
+    → forced_pair s a (Dll t p l t) ≡ Some (p, l)
+ends-forced s a t p l e = rw (term-self t, e) refl
+
+nothing-is : (x : Atom) → IsNothing x → is_nothing x ≡ true
+nothing-is _ (no_list {t = t}) = term-self t
+nothing-is _ no_tree = refl
+nothing-is _ (no_double {t = t} {p = p}) = rw (term-self t, term-self p) refl
 
 pub atom-cell : (xs : List Numbered) (a : ℕ) (t : Term) (fs : List (FieldId × Term))
     → atom_at xs a ≡ Some (Points t fs) → cell_at xs a t ≡ Some fs
@@ -157,12 +163,16 @@ pub rule-row : (d : Setting) (s : State) (todo : List Item) (tag : Tag) (left : 
     → nat_lt (needed d s tag todo) TOO_MANY ≡ true → Rule d s todo tag left
     → row_of d (s ⊢ todo) tag ≡ Some left
 rule-row d s _ _ _ few (rule.absurd_state e) = rw e refl
-rule-row d s _ _ _ few (rule.drop there spans) = rw (there, spans-nothing _ _ _ spans refl) refl
+rule-row d s _ _ _ few (rule.drop there nothing) = rw (there, nothing-is _ nothing) refl
 rule-row d s _ _ _ few (rule.force there spans differ elsewhere) =
     rw (there, spans-forced s _ _ _ _ spans (terms-differ _ _ differ) elsewhere) refl
+rule-row d s _ _ _ few (rule.force_ends {t = t} there differ) =
+    rw (there, ends-forced s _ t _ _ (terms-differ _ _ differ)) refl
 rule-row d s _ _ _ few (rule.split differ one two) = rw (terms-differ _ _ differ, one, two) refl
 rule-row d s _ _ _ few (rule.unroll_list there differ tl) = rw (there, differ, tl) refl
 rule-row d s _ _ _ few (rule.unroll_tree there differ l r) = rw (there, differ, l, r) refl
+rule-row d s _ _ _ few (rule.unroll_double there differ tl pv) = rw (there, differ, tl, pv) refl
+rule-row d s _ _ _ few (rule.back there differ tl pv) = rw (there, differ, tl, pv) refl
 rule-row d s _ _ _ few rule.assign = refl
 rule-row d s _ _ _ few (rule.look {a = a} {fs = fs} there (known at)) =
     let found = atom-cell s.atoms a _ fs there in
@@ -220,6 +230,15 @@ rule-row d s _ _ _ few
     meets-row s s.next_sym n terms between x t one in
     let second = meets-row s n m between ends y u two in
     rw (first, second) refl
+rule-row d s _ _ _ few
+    (rule.add_double {x = x} {b = b} {l = l} {y = y} {t = t} {r = r} {m = m} {u = u} {terms = terms}
+    {one = one} {two = two} {three = three} {ends = ends} {i = i} {j = j} {k = k} {n = n} from before
+    last to) =
+    let first : met s terms x ≡ met_as s t i one = meets-row s s.next_sym i terms one x t from in
+    let second = meets-row s i j one two b r before in
+    let third = meets-row s j k two three l m last in
+    let fourth = meets-row s k n three ends y u to in
+    rw (first, second, third, fourth) refl
 rule-row d s _ _ _ few (rule.add_tree {x = x} {t = t} {terms = terms} {ends = ends} {n = n} one) =
     let first : met s terms x ≡ met_as s t n ends = meets-row s s.next_sym n terms ends x t one in
     rw first refl
@@ -235,11 +254,16 @@ rule-row d s _ _ _ few
     let found = atom-cell s.atoms a _ fs there in
     let all = fits-row s.next_sym n fs gs terms ends ws fits in
     rw (few, one, found, all) refl
-rule-row d s _ _ _ few (rule.empty (list_wanted {t = t} one two) list_spans) =
+rule-row d s _ _ _ few (rule.empty (list_wanted {t = t} one two) no_list) =
     rw (one, two, term-self t) refl
-rule-row d s _ _ _ few (rule.empty (tree_wanted one) tree_spans) = rw one refl
+rule-row d s _ _ _ few (rule.empty (double_wanted {t = t} {r = r} one two three four) no_double) =
+    rw (one, two, three, four, term-self t, term-self r) refl
+rule-row d s _ _ _ few (rule.empty (tree_wanted one) no_tree) = rw one refl
 rule-row d s _ _ _ few (rule.exact (list_wanted {t = t} {u = u} one two) there) =
     rw (one, two, there, term-self t, term-self u) refl
+rule-row d s _ _ _ few
+    (rule.exact (double_wanted {t = t} {r = r} {m = m} {u = u} one two three four) there) =
+    rw (one, two, three, four, there, term-self t, term-self r, term-self m, term-self u) refl
 rule-row d s _ _ _ few (rule.exact (tree_wanted {t = t} one) there) =
     rw (one, there, term-self t) refl
 rule-row d s _ _ _ few
@@ -250,6 +274,15 @@ rule-row d s _ _ _ few
     rw (one, two, differ, found, linked) refl
 rule-row d s _ _ _ few (rule.join {t = t} one two there elsewhere) =
     rw (one, two, there, term-self t, elsewhere) refl
+rule-row d s _ _ _ few
+    (rule.head_double {a = a} {next = f} {r = r} {v = v} {fs = fs} {gs = gs} {terms = terms}
+    {n = n} (double_wanted one two three four) there differ back field) =
+    let found = atom-cell s.atoms a _ fs there in
+    let linked = field-row s.next_sym n fs gs f v terms field in
+    rw (one, two, three, four, differ, found, back, term-self r, linked) refl
+rule-row d s _ _ _ few
+    (rule.join_double {t = t} {r = r} (double_wanted one two three four) there elsewhere) =
+    rw (one, two, three, four, there, term-self t, term-self r, elsewhere) refl
 rule-row d s _ _ _ few
     (rule.node {a = a} {left = l} {right = r} {v = v} {w = w} {fs = fs} {gs = gs} {hs = hs}
     {terms = terms} {n = n} {m = m} one there field field_too) =

@@ -15,9 +15,9 @@ use Rattle.sf_core.specs.declared.assertion.Operand.{Operand}
 use Rattle.sf_core.specs.declared.assertion.Operand.TheVariants.{Known, Exists}
 use Rattle.sf_core.specs.declared.assertion.Test.TheVariants.{True, Equal, Differ}
 use Rattle.sf_core.specs.declared.fields.Links.{Links}
-use Rattle.sf_core.specs.Program.Syntax.{Conjunct, holds, points, segment, tree, choose, Conjuncts, none, also, Program}
-use Rattle.sf_normal.specs.Knowledge.{absurd_row, drop_row, force_row, split_row, unroll_row, unrolled, unrolled_segment, unrolled_tree}
-use Rattle.sf_produce.specs.Add.{add_first, add_row, added, goal_after, met, met_both, met_existential, met_fields}
+use Rattle.sf_core.specs.Program.Syntax.{Conjunct, holds, points, segment, doubly, tree, choose, Conjuncts, none, also, Program}
+use Rattle.sf_normal.specs.Knowledge.{absurd_row, back_one, back_row, drop_row, force_row, split_row, unroll_row, unrolled, unrolled_double, unrolled_last, unrolled_segment, unrolled_tree}
+use Rattle.sf_produce.specs.Add.{add_first, add_row, added, goal_after, met, met_both, met_existential, met_fields, met_four}
 use Rattle.sf_rules.specs.HasVariables.{TodoReadsIn}
 use Rattle.sf_rules.specs.Checked.Rows.Branches.{branch_row, chosen}
 use Rattle.sf_rules.specs.Checked.Lemmas.CommandChildren.{IsOrdered}
@@ -26,7 +26,7 @@ use Rattle.sf_rules.specs.Checked.Lemmas.TodoReads.{adding-reads, with-reads}
 use Rattle.sf_rules.specs.Checked.Lemmas.VariableTerms.{map-listed, map-order}
 use Rattle.sf_sym.specs.Cells.{atom_at, with_atom, with_cell, without}
 use Rattle.sf_sym.specs.declared.atom.Atom.{Atom}
-use Rattle.sf_sym.specs.declared.atom.Atom.TheVariants.{Points, Ls, Tree}
+use Rattle.sf_sym.specs.declared.atom.Atom.TheVariants.{Points, Ls, Tree, Dll}
 use Rattle.sf_sym.specs.declared.atom.Numbered.{Numbered}
 use Rattle.sf_sym.specs.declared.term.Term.{Term}
 use Rattle.sf_sym.specs.declared.term.Term.TheVariants.{Sym}
@@ -78,6 +78,7 @@ atoms-order to (a ∷ atoms) o = (one a.atom o.0, atoms-order to atoms o.1)
     one (Points t fields) o = fields-order to fields o
     one (Ls t u) o = tt
     one (Tree t) o = tt
+    one (Dll t p l u) o = tt
 
 replaced-stay : (to : Term → Term) (s : State) → IsOrdered s → StateStays s (state_with to s)
 replaced-stay to s o = record {
@@ -246,6 +247,10 @@ new-stay s s1 t fields h st = record {
   taken = st.taken;
 }
 
+-- the two fields of a cell of a doubly linked segment are in order
+double-order : (next back : FieldId) (t u : Term) → AreOrdered (put_term next t (put_term back u []))
+double-order next back t u = put-order next t (put_term back u []) (put-order back u [] tt)
+
 unrolled-stay : (links : Links) (x : Atom) (s s2 : State) → IsOrdered s → unrolled links x s ≡ Some s2
     → StateStays s s2
 unrolled-stay links (Points t fields) s s2 o e = absurd (cc)
@@ -273,6 +278,31 @@ unrolled-stay links (Tree t) s s2 o e = go links.l links.r e
         (new-stay s (with_symbols 2 s) t fields (put-order left one (put_term right two [])
         (put-order right two [] tt))
         (symbols-stay s s 2 (self-stay s o)))))
+unrolled-stay links (Dll t p l u) s s2 o e = go links.tl links.pv e
+  where
+    go : (next back : Option FieldId) → unrolled_double next back t p l u s ≡ Some s2 → StateStays s s2
+    go None back e = absurd (cc)
+    go (Some next) None e = absurd (cc)
+    go (Some next) (Some back) e =
+        let rest = Sym s.next_sym in
+        let fields = put_term next rest (put_term back p []) in
+        subst (StateStays s)
+        (same_Some (with_atom (Dll rest t l u) (with_cell (with_symbols 1 s) t fields)) s2 e)
+        (atom-stay s _ (Dll rest t l u) tt
+        (new-stay s (with_symbols 1 s) t fields (double-order next back rest p) (symbols-stay s s 1 (self-stay s o))))
+
+-- from behind
+last-stay : (next back : Option FieldId) (t p l u : Term) (s s2 : State) → IsOrdered s
+    → unrolled_last next back t p l u s ≡ Some s2 → StateStays s s2
+last-stay None back t p l u s s2 o e = absurd (cc)
+last-stay (Some next) None t p l u s s2 o e = absurd (cc)
+last-stay (Some next) (Some back) t p l u s s2 o e =
+    let before = Sym s.next_sym in
+    let fields = put_term next u (put_term back before []) in
+    let rest = with_atom (Dll t p before l) (with_symbols 1 s) in
+    subst (StateStays s) (same_Some (with_cell rest l fields) s2 e)
+    (new-stay s rest l fields (double-order next back u before)
+    (atom-stay s (with_symbols 1 s) (Dll t p before l) tt (symbols-stay s s 1 (self-stay s o))))
 
 pub unroll-stays : (goal : Goal) (left : List Goal) (a : ℕ) → IsOrdered goal.state → unroll_row goal a ≡ Some left
     → AllStay goal left
@@ -315,6 +345,40 @@ unroll-stays goal left a o row = go (atom_at goal.state.atoms a) row
     go None i = absurd (cc)
     go (Some x) i = both x (ends x) i
 
+pub back-stays : (goal : Goal) (left : List Goal) (a : ℕ) → IsOrdered goal.state → back_row goal a ≡ Some left
+    → AllStay goal left
+back-stays goal left a o row = go (atom_at goal.state.atoms a) row
+  where
+    made : (t p l u : Term) (m : Option State)
+        → unrolled_last goal.state.links.tl goal.state.links.pv t p l u
+        (record goal.state { atoms = without goal.state.atoms a }) ≡ m
+        → option_map (λ s. record goal { state = s } ∷ []) m ≡ Some left → AllStay goal left
+    made t p l u None i e = absurd (cc)
+    made t p l u (Some s) i e =
+        let st = last-stay goal.state.links.tl goal.state.links.pv t p l u
+        (record goal.state { atoms = without goal.state.atoms a }) s
+        (record { vars = o.vars; fields = without-all HasOrder goal.state.atoms a o.fields }) i in
+        one-stays goal (record goal { state = s }) left e (record {
+          state = record { ordered = st.ordered; listed = st.listed; taken = st.taken };
+          form = same-form goal (record goal { state = s }) refl st.taken;
+          reads = λ p among r. r;
+        })
+
+    step : (t p l u : Term) (b : Bool)
+        → cond b (option_map (λ s. record goal { state = s } ∷ []) (unrolled_last goal.state.links.tl
+        goal.state.links.pv t p l u (record goal.state { atoms = without goal.state.atoms a }))) None ≡ Some left
+        → AllStay goal left
+    step t p l u true i = made t p l u (unrolled_last goal.state.links.tl goal.state.links.pv t p l u
+        (record goal.state { atoms = without goal.state.atoms a })) refl i
+    step t p l u false i = absurd (cc)
+
+    go : (m : Option Atom) → option_and_then (back_one goal a) m ≡ Some left → AllStay goal left
+    go None i = absurd (cc)
+    go (Some (Points t fields)) i = absurd (cc)
+    go (Some (Ls t u)) i = absurd (cc)
+    go (Some (Tree t)) i = absurd (cc)
+    go (Some (Dll t p l u)) i = step t p l u (differs goal.state t u) i
+
 -- WHAT IS ASSUMED another state has the same lists
 pub record SameLists (s s2 : State) : Type 0 where
   pub vars : s2.vars ≡ s.vars
@@ -349,6 +413,13 @@ both-same s bindings x y =
     let first = met s bindings x in
     same-then s first.state (met first.state first.bindings y).state (met-same s bindings x)
     (met-same first.state first.bindings y)
+
+four-same : (s : State) (bindings : List (Option Term)) (x b l y : Operand Term)
+    → SameLists s (met_four s bindings x b l y).state
+four-same s bindings x b l y =
+    let first = met_both s bindings x b in
+    same-then s first.state (met_both first.state first.bindings l y).state (both-same s bindings x b)
+    (both-same first.state first.bindings l y)
 
 fields-same : (s : State) (bindings : List (Option Term)) (fs : List (FieldId
     × Operand Term)) (made : List (FieldId × Term))
@@ -441,6 +512,15 @@ added-stays s p bindings (segment q next x y) cs rest child o e =
       state = st;
       form = after-form s (with_atom (Ls m.one m.two) m.state) p cs m.bindings rest st.taken;
       reads = after-reads (with_atom (Ls m.one m.two) m.state) p cs m.bindings rest;
+    })
+added-stays s p bindings (doubly q next back x b l y) cs rest child o e =
+    let m = met_four s bindings x b l y in
+    let a = Dll m.from m.before m.last m.to in
+    let st = more-stay s m.state (with_atom a m.state) _ o (four-same s bindings x b l y) tt refl refl refl in
+    subst (AddStays s rest) (same_Some _ child e) (record {
+      state = st;
+      form = after-form s (with_atom a m.state) p cs m.bindings rest st.taken;
+      reads = after-reads (with_atom a m.state) p cs m.bindings rest;
     })
 added-stays s p bindings (tree q left right x) cs rest child o e =
     let m = met s bindings x in

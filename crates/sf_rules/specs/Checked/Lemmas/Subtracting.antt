@@ -6,7 +6,7 @@ use Rattle.std.specs.Option.{option_and_then, option_map}
 use Rattle.std.proofs.Common.{◌≡◌, ℕ, Bool, true, false, cond, Option, Some, None, List, ◌∷◌, ◌++◌, refl, subst}
 use Rattle.std.proofs.lemmas.Option.{same_Some}
 use Rattle.sf_base.specs.declared.place.Place.{Place}
-use Rattle.sf_consume.specs.Subtract.{Fit, Step, Want, apart_step, bind_step, binding, both, cell_step, empty_step, equality, exact_step, exact_there, fitting, handed_cell, head_step, head_there, inequality, join_step, join_there, joined, new_symbols, node_step, node_there, removed, removed_if, same_step, stepped, subtracted, wanted_cell, wanted_ends, wanted_list, wanted_shape, wanted_tree}
+use Rattle.sf_consume.specs.Subtract.{Fit, Step, Want, apart_step, bind_step, binding, both, cell_step, double_cell, double_head_step, double_head_there, double_join_step, double_join_there, double_joined, empty_step, equality, exact_step, exact_there, first_of, fitting, four, handed_cell, head_step, head_there, inequality, join_step, join_there, joined, list_head_step, list_join_step, new_symbols, node_step, node_there, removed, removed_if, same_step, stepped, subtracted, wanted_cell, wanted_double, wanted_list, wanted_shape, wanted_tree}
 use Rattle.sf_consume.specs.Wants.{still_wanted, wanting}
 use Rattle.sf_core.specs.Program.Syntax.{Conjunct, Conjuncts, none, also}
 use Rattle.sf_rules.specs.Checked.Lemmas.{few-left}
@@ -21,6 +21,7 @@ use Rattle.sf_sym.specs.declared.tag.Tag.TheVariants as tags
 use Rattle.sf_sym.specs.declared.term.Term.{Term}
 use Rattle.sf_sym.specs.Checked.Lemmas.AtomLists.{without-all}
 use Rattle.sf_sym.specs.Goal.{Item, take, Goal, one_goal, taking}
+use Rattle.sf_sym.specs.Known.{is_nothing}
 use Rattle.sf_sym.specs.Pending.{Pending}
 use Rattle.sf_sym.specs.Ready.{HasOrder}
 use Rattle.sf_sym.specs.State.{State}
@@ -44,6 +45,10 @@ option-map P f (Some x) h = h x
 pub option-cond : {X : Type 0} (P : X → Type 0) (b : Bool) (o : Option X) → AllIn P o → AllIn P (cond b o None)
 option-cond P true o h = h
 option-cond P false o h = tt
+
+pub option-first : {X : Type 0} (P : X → Type 0) (o q : Option X) → AllIn P o → AllIn P q → AllIn P (first_of o q)
+option-first P None q h g = g
+option-first P (Some x) q h g = h
 
 pub option-is : {X : Type 0} (P : X → Type 0) (o : Option X) (x : X) → o ≡ Some x → AllIn P o → P x
 option-is P o x e h = subst (AllIn P) e h
@@ -92,16 +97,16 @@ module _ (s : State) (bindings : List (Option Term)) (c : Conjunct Term) (cs : C
       (λ r. cell-lists s r.0 a r.1)
 
   empty-lists : AllIn P (empty_step s bindings c cs)
-  empty-lists = option-then P (removed_if same_term s bindings cs) (wanted_ends bindings c)
-      (removed-lists same_term s bindings cs)
+  empty-lists = option-then P _ (wanted_shape bindings c)
+      (λ x. option-cond P (is_nothing x) (Some (removed s bindings cs)) (lists-same s))
 
   exact-lists : (a : ℕ) → AllIn P (exact_step a s bindings c cs)
   exact-lists a = option-then P (exact_there a s bindings cs) (wanted_shape bindings c)
       (λ wanted. option-then P _ (atom_at s.atoms a)
       (λ x. option-cond P _ (Some (removed (handed s a x) bindings cs)) (handed-lists s a x)))
 
-  head-lists : (a : ℕ) → AllIn P (head_step a s bindings c cs)
-  head-lists a = option-then P _ (wanted_list c)
+  list_head-lists : (a : ℕ) → AllIn P (list_head_step a s bindings c cs)
+  list_head-lists a = option-then P _ (wanted_list c)
       (λ w. option-then P (head_there a s bindings w cs) (both bindings w.from w.to)
       (λ e. option-cond P (differs s e.0 e.1) _
       (option-map P _ (cell_at s.atoms a e.0) (λ fields. record {
@@ -109,11 +114,33 @@ module _ (s : State) (bindings : List (Option Term)) (c : Conjunct Term) (cs : C
         fields = λ o. without-all HasOrder s.atoms a o;
       }))))
 
-  join-lists : (a : ℕ) → AllIn P (join_step a s bindings c cs)
-  join-lists a = option-then P _ (wanted_list c)
+  double_head-lists : (a : ℕ) → AllIn P (double_head_step a s bindings c cs)
+  double_head-lists a = option-then P _ (wanted_double c)
+      (λ w. option-then P (double_head_there a s bindings w cs) (four bindings w.from w.before w.last w.to)
+      (λ e. option-cond P (differs s e.0 e.3) _
+      (option-map P _ (double_cell a s bindings w e.0 e.1) (λ r. cell-lists s e.0 a r.0))))
+
+  head-lists : (a : ℕ) → AllIn P (head_step a s bindings c cs)
+  head-lists a =
+      option-first P (list_head_step a s bindings c cs) (double_head_step a s bindings c cs) (list_head-lists a)
+      (double_head-lists a)
+
+  list_join-lists : (a : ℕ) → AllIn P (list_join_step a s bindings c cs)
+  list_join-lists a = option-then P _ (wanted_list c)
       (λ w. option-then P (join_there a s bindings w cs) (both bindings w.from w.to)
       (λ e. option-then P _ (atom_at s.atoms a)
       (λ x. option-map P _ (joined s a e.0 e.1 x) (λ v. handed-lists s a x))))
+
+  double_join-lists : (a : ℕ) → AllIn P (double_join_step a s bindings c cs)
+  double_join-lists a = option-then P _ (wanted_double c)
+      (λ w. option-then P (double_join_there a s bindings w cs) (four bindings w.from w.before w.last w.to)
+      (λ e. option-then P _ (atom_at s.atoms a)
+      (λ x. option-map P _ (double_joined s a e.0 e.1 e.3 x) (λ v. handed-lists s a x))))
+
+  join-lists : (a : ℕ) → AllIn P (join_step a s bindings c cs)
+  join-lists a =
+      option-first P (list_join_step a s bindings c cs) (double_join_step a s bindings c cs) (list_join-lists a)
+      (double_join-lists a)
 
   node-lists : (a : ℕ) → AllIn P (node_step a s bindings c cs)
   node-lists a = option-then P _ (wanted_tree c)

@@ -11,7 +11,7 @@ use Rattle.sf_rules.specs.Checked.Rows.Branches.{then_row, else_row}
 use Rattle.sf_rules.specs.Checked.Rows.Calls.{call_row, fork_row, give_row}
 use Rattle.sf_rules.specs.Checked.Rows.Commands.{assign_row, look_row, mutate_row, new_row, dispose_row}
 use Rattle.sf_rules.specs.Checked.Rows.Ends.{return_row, end_row}
-use Rattle.sf_normal.specs.Knowledge.{absurd_row, drop_row, force_row, split_row, unroll_row}
+use Rattle.sf_normal.specs.Knowledge.{absurd_row, back_row, drop_row, force_row, split_row, unroll_row}
 use Rattle.sf_rules.specs.Checked.Rows.Front.{at_command, at_add, at_take, at_gave, at_head, at_again, at_exit, at_return, at_end}
 use Rattle.sf_rules.specs.Checked.Rows.Loops.{loop_row, around_row, again_row}
 use Rattle.sf_rules.specs.Checked.Rows.Regions.{enter_row, exit_row}
@@ -26,6 +26,7 @@ row_of d g (t.Drop a) = drop_row g a
 row_of d g (t.Force a) = force_row g a
 row_of d g (t.Split x y) = split_row g x y
 row_of d g (t.Unroll a) = unroll_row g a
+row_of d g (t.Back a) = back_row g a
 row_of d g t.Assign = at_command (assign_row g.state) g.todo
 row_of d g (t.Look a) = at_command (look_row a g.state) g.todo
 row_of d g (t.Mutate a) = at_command (mutate_row a g.state) g.todo

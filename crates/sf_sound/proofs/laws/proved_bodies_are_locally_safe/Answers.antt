@@ -10,6 +10,7 @@ returns c = proved_bodies_are_locally_safe (record {
     force_law = c.force_keeps_goals.ensures;
     split_law = c.split_keeps_goals.ensures;
     unroll_law = c.unroll_keeps_goals.ensures;
+    back_law = c.back_keeps_goals.ensures;
     assign_law = c.assign_follows_event.ensures;
     look_law = c.look_follows_event.ensures;
     mutate_law = c.mutate_follows_event.ensures;

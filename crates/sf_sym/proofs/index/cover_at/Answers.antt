@@ -16,14 +16,15 @@ returns-then-not-any_gets_cell-clause-ok c = λ x h j e.
 
 pub returns-clause-only : goal.returns-clause-only
 returns-clause-only c =
-    enters-roots c.args.roots.now c.args.cells.now c.enter_new.new.cells c.args.at c.requires
+    enters-roots c.args.roots.now c.args.cells.now c.enter_new.new.cells c.args.at
     (subst (λ xs. EntersOf xs c.args.cells.now c.enter_new.new.cells) c.at-rows.ensures c.enter_new.ensures.only)
 
 pub returns-clause-ok : goal.returns-clause-ok
 returns-clause-ok c =
     on-ok c.enter_new.result
     (λ ok x h j e.
-    covered-one c.args.roots.now c.enter_new.new.cells c.add_all.new.self c.args.at c.requires x h
+    covered-one c.args.roots.now c.enter_new.new.cells c.mark_others.new.marks c.args.at c.requires x h
     (ok x (subst (In x) (sym c.at-rows.ensures) h)
     (and_from (joins c.args.pair (bare x.outline)) (not (has_cell c.args.apart.now (bare x.outline))) j (ap not e)))
-    (λ r i. c.in_ok-add_all.ensures.ok r (subst (In r) (sym c.at-rows.ensures) i))) c.enter_new.ensures.ok
+    (λ r i. c.mark_others.ensures.still r (c.in_ok-add_all.ensures.ok r (subst (In r) (sym c.at-rows.ensures) i)))
+    (c.in_ok-mark_others.ensures.ok x (subst (In x) (sym c.at-rows.ensures) h))) c.enter_new.ensures.ok

@@ -1,18 +1,16 @@
-use Rattle.std.proofs.Common.{inl, inr, ap}
-use Rattle.sf_sym.specs.declared.outline.Row.{Row}
+use Rattle.sf_sym.proofs.Entering.{undone, undone-enter, undone-same}
 use Rattle.sf_sym.proofs.index.enter.Goals as goal
 
 pub returns-in-Err-clause-err : goal.returns-in-Err-clause-err
 returns-in-Err-clause-err c = (
-  record {
-    only = λ t r h.
-        let k = c.leave.ensures.only t r h in
-        elim (c.in_ok-enter.ensures.ok.only t r k.0) [
-          | inl g ↦ g
-          | inr g ↦ absurd (k.1 g.1 g.0)
-        ];
-    others = λ t r h other. c.leave.ensures.others t r (c.in_ok-enter.ensures.ok.still t r h)
-        (λ e. other (ap (λ (x : Row). x.number) e));
-  },
-  c.in-Err.ensures.err,
+  undone c.args.row c.args.roots.now c.enter.new.self c.leave.new.self c.in-Err.ensures.err c.leave.ensures,
+  undone-same c.args.row.number c.args.cells.now,
+)
+
+pub returns-in-Err-enter-clause-err : goal.returns-in-Err-enter-clause-err
+returns-in-Err-enter-clause-err c = (
+  undone-enter c.args.row c.args.roots.now c.enter.new.self c.leave-in-Err-enter.new.self c.in_default.ensures.ok
+      c.leave-in-Err-enter.ensures,
+  undone c.args.row c.args.cells.now c.enter-then-is_cell.new.self c.leave-in-Err-enter-2.new.self
+      c.in-Err-enter.ensures.err c.leave-in-Err-enter-2.ensures,
 )

@@ -1,14 +1,14 @@
 -- Terms that occur: a weaker property of all of them, and symbols below a number.
 -- Names: `PART-weaker` of what holds of every term of that part, `below-LAW` of terms below a number.
 use Rattle.std.specs.List.{AllByRecursion}
-use Rattle.std.proofs.Common.{◌≡◌, ℕ, ◌<◌, ◌≤◌, ◌&&◌, Bool, true, not, nat_lt, List, [], ◌∷◌, Some, refl, sym, subst, arith}
+use Rattle.std.proofs.Common.{◌≡◌, ℕ, ◌<◌, ◌≤◌, ◌&&◌, Bool, true, false, not, cond, nat_lt, List, [], ◌∷◌, Option, Some, None, refl, sym, subst, arith}
 use Rattle.std.proofs.lemmas.Bool.{ltb-true}
 use Rattle.std.proofs.lemmas.Bool.Decides.{nat_tests}
-use Rattle.std.proofs.lemmas.Option.{cond_some}
+use Rattle.std.proofs.lemmas.Option.{cond_some, same_Some}
 use Rattle.sf_base.specs.declared.ids.FieldId.{FieldId}
 use Rattle.sf_base.specs.declared.value.Value.{Value}
 use Rattle.sf_sym.specs.declared.atom.Atom.{Atom}
-use Rattle.sf_sym.specs.declared.atom.Atom.TheVariants.{Points, Ls, Tree}
+use Rattle.sf_sym.specs.declared.atom.Atom.TheVariants.{Points, Ls, Tree, Dll}
 use Rattle.sf_sym.specs.declared.atom.Numbered.{Numbered}
 use Rattle.sf_sym.specs.declared.term.Term.{Term}
 use Rattle.sf_sym.specs.declared.term.Term.TheVariants.{Nil, Int, Sym}
@@ -35,6 +35,7 @@ module _ (P Q : Term → Type 0) (weaker : (t : Term) → P t → Q t) where
   atom-weaker (Points t fields) a = (weaker t a.0, paired-weaker fields a.1)
   atom-weaker (Ls t u) a = (weaker t a.0, weaker u a.1)
   atom-weaker (Tree t) a = weaker t a
+  atom-weaker (Dll v p l u) a = (weaker v a.0, weaker p a.1, weaker l a.2, weaker u a.3)
 
   pub atoms-weaker : (all : List Numbered) → AllInAtoms P all → AllInAtoms Q all
   atoms-weaker [] a = tt
@@ -111,3 +112,16 @@ forced-below n (Ls t u) elsewhere both e b =
 forced-below n (Tree t) elsewhere both e b =
     subst (λ z. IsBelow n z.0 × IsBelow n z.1)
     (cond_some (not (same_term t Nil) && elsewhere) (t, Nil) both e).1 (b, refl)
+forced-below n (Dll v p l u) elsewhere both e b = go (same_term v u) (same_term p l) elsewhere e
+  where
+    go : (x y z : Bool)
+        → cond {A = Option (Term × Term)} x (cond y None (Some (p, l))) (cond z (Some (v, u)) None) ≡ Some both
+        → IsBelow n both.0 × IsBelow n both.1
+    go true true z f = absurd (cc)
+    go true false z f =
+        let is : (p, l) ≡ both = same_Some (p, l) both f in
+        subst (λ (z : Term × Term). IsBelow n z.0 × IsBelow n z.1) is (b.1, b.2)
+    go false y true f =
+        let is : (v, u) ≡ both = same_Some (v, u) both f in
+        subst (λ (z : Term × Term). IsBelow n z.0 × IsBelow n z.1) is (b.0, b.3)
+    go false y false f = absurd (cc)

@@ -20,7 +20,7 @@ use Rattle.sf_core.specs.declared.assertion.Scope.{Scope}
 use Rattle.sf_core.specs.declared.assertion.Test.{Test}
 use Rattle.sf_core.specs.declared.fields.Links.{Links}
 use Rattle.sf_core.specs.Program.Formed.{conjunct_scopes, conjuncts_scopes, is_made, level_scopes}
-use Rattle.sf_core.specs.Program.Syntax.{Conjunct, holds, points, segment, tree, choose, Level, level, Conjuncts, none, also}
+use Rattle.sf_core.specs.Program.Syntax.{Conjunct, holds, points, segment, doubly, tree, choose, Level, level, Conjuncts, none, also}
 use Rattle.sf_sym.specs.declared.term.Term.{Term}
 use Rattle.sf_sym.specs.Formed.{AllFormed, IsScoped, LevelFormed, OneFormed, is_made_inside}
 use Rattle.sf_sym.specs.Holds.{term_value, IsBound, PendingHolds}
@@ -134,6 +134,7 @@ module _ {E : Type 0} where
     conjunct-rest (holds p t) rest = refl
     conjunct-rest (points p x fs) rest = refl
     conjunct-rest (segment p next x y) rest = refl
+    conjunct-rest (doubly p next back x b l y) rest = refl
     conjunct-rest (tree p left right x) rest = refl
     conjunct-rest (choose p t this that) rest =
         level-rest this (level_scopes that rest)

@@ -18,7 +18,7 @@ use Rattle.sf_core.specs.declared.assertion.Test.{Test}
 use Rattle.sf_core.specs.declared.assertion.Test.TheVariants.{True, Equal, Differ}
 use Rattle.sf_core.specs.declared.fields.Links.{Links}
 use Rattle.sf_core.specs.Program.Formed.{TestWithin, conjunct_scopes, conjuncts_scopes, is_made, level_scopes}
-use Rattle.sf_core.specs.Program.Syntax.{Conjunct, holds, points, segment, tree, choose, Level, level, Conjuncts, none, also, Block, done, then}
+use Rattle.sf_core.specs.Program.Syntax.{Conjunct, holds, points, segment, doubly, tree, choose, Level, level, Conjuncts, none, also, Block, done, then}
 use Rattle.sf_sym.specs.declared.term.Term.{Term}
 use Rattle.sf_sym.specs.Equalities.{assumed_equal, item_with, pending_with, put_for, which_goes, with_one}
 use Rattle.sf_sym.specs.Formed.{AllFormed, AreFormed, IsCounted, IsScoped, ItemFormed, LevelFormed, OneFormed, PendingFormed, are_some}
@@ -68,6 +68,9 @@ module _ {E F : Type 0} (to : E → F) where
     exists-with_one n (points p x fs) (inl i) = inl (exists-with_operand n x i)
     exists-with_one n (points p x fs) (inr o) = inr (exists-with_fields n fs o)
     exists-with_one n (segment p next x y) o = exists-with_two n x y o
+    exists-with_one n (doubly p next back x b l y) (inl i) = inl (exists-with_operand n x i)
+    exists-with_one n (doubly p next back x b l y) (inr (inl i)) = inr (inl (exists-with_operand n b i))
+    exists-with_one n (doubly p next back x b l y) (inr (inr o)) = inr (inr (exists-with_two n l y o))
     exists-with_one n (tree p left right x) o = exists-with_operand n x o
     exists-with_one n (choose p t this that) (inl o) = inl (exists-with_test n t o)
     exists-with_one n (choose p t this that) (inr (inl o)) = inr (inl (exists-with_level n this o))
@@ -90,6 +93,7 @@ module _ {E F : Type 0} (to : E → F) where
     scopes-with_one (holds p t) rest = refl
     scopes-with_one (points p x fs) rest = refl
     scopes-with_one (segment p next x y) rest = refl
+    scopes-with_one (doubly p next back x b l y) rest = refl
     scopes-with_one (tree p left right x) rest = refl
     scopes-with_one (choose p t this that) rest =
         scopes-with_level this (level_scopes (level_with to that) rest)
@@ -134,6 +138,14 @@ module _ (to : Term → Term) (links : Links) where
     )
     formed-with_one count (segment p next x y) f =
         (f.0, formed-with_operand count x f.1, formed-with_operand count y f.2)
+    formed-with_one count (doubly p next back x b l y) f = (
+      f.0,
+      f.1,
+      formed-with_operand count x f.2,
+      formed-with_operand count b f.3,
+      formed-with_operand count l f.4,
+      formed-with_operand count y f.5,
+    )
     formed-with_one count (tree p left right x) f = (f.0, f.1, formed-with_operand count x f.2)
     formed-with_one count (choose p t this that) f =
         (formed-with_test count t f.0, formed-with_level count this f.1, formed-with_level count that f.2)

@@ -12,21 +12,21 @@ use Rattle.sf_base.specs.declared.value.Value.{Value}
 use Rattle.sf_base.specs.declared.value.Value.TheVariants.{Loc as loc}
 use Rattle.sf_base.specs.HeapStore.{Cell, Heap, IsEmpty, IsOne, ◌⋆◌}
 use Rattle.sf_core.specs.Assertions.Occurs.{OccursIn, OccursInAll, OccursInFields, OccursInOne, OccursInTest}
-use Rattle.sf_core.specs.Assertions.Sat.{HasFields, IsTrueOf, SameOutside, Sat, SatAll, SatOne, Seg, Tree as IsTree, operand}
+use Rattle.sf_core.specs.Assertions.Sat.{HasFields, IsTrueOf, SameOutside, Sat, SatAll, SatOne, Dseg, Seg, Tree as IsTree, operand}
 use Rattle.sf_core.specs.declared.assertion.Operand.{Operand}
 use Rattle.sf_core.specs.declared.assertion.Operand.TheVariants.{Known, Exists}
 use Rattle.sf_core.specs.declared.assertion.Test.{Test}
 use Rattle.sf_core.specs.declared.assertion.Test.TheVariants.{True, Equal, Differ as Unequal}
 use Rattle.sf_core.specs.declared.fields.Links.{Links}
-use Rattle.sf_core.specs.Program.Syntax.{Conjunct, holds, points, segment, tree, choose, Level, level, Conjuncts, none, also}
+use Rattle.sf_core.specs.Program.Syntax.{Conjunct, holds, points, segment, doubly, tree, choose, Level, level, Conjuncts, none, also}
 use Rattle.sf_sym.specs.declared.atom.Atom.{Atom}
-use Rattle.sf_sym.specs.declared.atom.Atom.TheVariants.{Points, Ls, Tree}
+use Rattle.sf_sym.specs.declared.atom.Atom.TheVariants.{Points, Ls, Tree, Dll}
 use Rattle.sf_sym.specs.declared.atom.Numbered.{Numbered}
 use Rattle.sf_sym.specs.declared.term.Term.{Term}
 use Rattle.sf_sym.specs.Below.{AllInAtom, AllInAtoms, AllInGoal, AllInItem, AllInPairs, AllInPending, AllPaired}
 use Rattle.sf_sym.specs.Equalities.{atom_with, numbered_with, pending_with, item_with, goal_with}
 use Rattle.sf_sym.specs.Goal.{Item, run, add, take, gave, head, again, exit, return, end, Goal}
-use Rattle.sf_sym.specs.Holds.{term_value, Agrees, Differ, SegAlong, TreeAlong, AtomHolds, AtomsHold, PendingHolds, AddsHold}
+use Rattle.sf_sym.specs.Holds.{term_value, Agrees, Differ, DsegAlong, SegAlong, TreeAlong, AtomHolds, AtomsHold, PendingHolds, AddsHold}
 use Rattle.sf_sym.specs.HoldsIn.{HoldsIn}
 use Rattle.sf_sym.specs.Mapped.{operand_with, test_with, level_with, conjuncts_with, conjunct_with}
 use Rattle.sf_sym.specs.Pending.{Pending}
@@ -70,6 +70,9 @@ module _ {E F : Type 0} (to : E → F) (v : F → Value) where
         × IsOne location here heap × fields-with some fs here j
     conjunct-with (segment p next x y) some heap =
         λ j. Seg next (operand-with some y j) (operand-with some x j) heap
+    conjunct-with (doubly p next back x b l y) some heap =
+        λ j. Dseg next back (operand-with some l j) (operand-with some y j) (operand-with some b j)
+        (operand-with some x j) heap
     conjunct-with (tree p left right x) some heap = λ j. IsTree left right (operand-with some x j) heap
     conjunct-with (choose p t this that) some heap =
         λ j. (test-with some t j → level-with this some heap j)
@@ -128,6 +131,13 @@ module _ {E F : Type 0} (to : E → F) where
     one-made y (points p x fs) (inr o) =
         made-more (OccursInFields fs) (OccursInOne (points p x fs)) y (λ o i. inr i) (fields-made y fs o)
     one-made y (segment p next x z) o = two-made y x z o
+    one-made y (doubly p next back x b l z) (inl e) =
+        made-more (λ o. o ≡ x) (OccursInOne (doubly p next back x b l z)) y (λ o i. inl i) (operand-made y x e)
+    one-made y (doubly p next back x b l z) (inr (inl e)) =
+        made-more (λ o. o ≡ b) (OccursInOne (doubly p next back x b l z)) y (λ o i. inr (inl i)) (operand-made y b e)
+    one-made y (doubly p next back x b l z) (inr (inr o)) =
+        made-more (λ o. (o ≡ l) ⊎ (o ≡ z)) (OccursInOne (doubly p next back x b l z)) y (λ o i. inr (inr i))
+        (two-made y l z o)
     one-made y (tree p left right x) o = operand-made y x o
     one-made y (choose p t this that) (inl o) =
         made-more (OccursInTest t) (OccursInOne (choose p t this that)) y (λ x i. inl i) (test-made y t o)
@@ -174,6 +184,11 @@ module _ (w : ℕ → Value) (to : Term → Term) (same : (t : Term) → term_va
       (location, here, same t ∙ is, one, terms-with fields here f)
   atom-with links (Ls t u) heap h =
       subst₂ (λ x y. SegAlong links.tl x y heap) (sym (same t)) (sym (same u)) h
+  atom-with links (Dll v p l u) heap h =
+      subst₂ (λ x y. DsegAlong links.tl links.pv (term_value w (to v)) (term_value w (to p)) x y heap) (sym (same l))
+      (sym (same u))
+      (subst₂ (λ x y. DsegAlong links.tl links.pv x y (term_value w l) (term_value w u) heap) (sym (same v))
+      (sym (same p)) h)
   atom-with links (Tree t) heap h = subst (λ x. TreeAlong links.l links.r x heap) (sym (same t)) h
 
   pub atoms-with : (links : Links) (atoms : List Numbered) (heap : Heap) → AtomsHold w links atoms heap
@@ -232,6 +247,7 @@ module _ (P Q : Term → Type 0) (to : Term → Term) (makes : (t : Term) → P 
   all_atom-with (Points t fields) a = (makes t a.0, paired-with fields a.1)
   all_atom-with (Ls t u) a = (makes t a.0, makes u a.1)
   all_atom-with (Tree t) a = makes t a
+  all_atom-with (Dll v p l u) a = (makes v a.0, makes p a.1, makes l a.2, makes u a.3)
 
   all_atoms-with : (all : List Numbered) → AllInAtoms P all → AllInAtoms Q (map (numbered_with to) all)
   all_atoms-with [] a = tt

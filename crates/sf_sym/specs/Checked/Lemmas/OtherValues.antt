@@ -14,12 +14,12 @@ use Rattle.sf_core.specs.declared.assertion.Operand.{Operand}
 use Rattle.sf_core.specs.declared.assertion.Operand.TheVariants.{Known, Exists}
 use Rattle.sf_core.specs.declared.fields.Links.{Links}
 use Rattle.sf_sym.specs.declared.atom.Atom.{Atom}
-use Rattle.sf_sym.specs.declared.atom.Atom.TheVariants.{Points, Ls, Tree}
+use Rattle.sf_sym.specs.declared.atom.Atom.TheVariants.{Points, Ls, Tree, Dll}
 use Rattle.sf_sym.specs.declared.atom.Numbered.{Numbered}
 use Rattle.sf_sym.specs.declared.term.Term.{Term}
 use Rattle.sf_sym.specs.Below.{AllInAtom, AllInAtoms, AllInGoal, AllInItem, AllInPairs, AllInPending, AllPaired}
 use Rattle.sf_sym.specs.Goal.{Item, run, add, take, gave, head, again, exit, return, end, Goal}
-use Rattle.sf_sym.specs.Holds.{term_value, Agrees, Differ, SegAlong, TreeAlong, AtomHolds, AtomsHold, PendingHolds, AddsHold}
+use Rattle.sf_sym.specs.Holds.{term_value, Agrees, Differ, DsegAlong, SegAlong, TreeAlong, AtomHolds, AtomsHold, PendingHolds, AddsHold}
 use Rattle.sf_sym.specs.HoldsIn.{HoldsIn}
 use Rattle.sf_sym.specs.Pending.{Pending}
 
@@ -49,6 +49,9 @@ module _ (w v : ℕ → Value) where
       (location, here, sym s.0 ∙ is, one, fields-other_values fields here s.1 f)
   atom-other_values links (Ls t u) heap s h = subst₂ (λ x y. SegAlong links.tl x y heap) s.0 s.1 h
   atom-other_values links (Tree t) heap s h = subst (λ x. TreeAlong links.l links.r x heap) s h
+  atom-other_values links (Dll t p l u) heap s h =
+      subst₂ (λ x y. DsegAlong links.tl links.pv (term_value v t) (term_value v p) x y heap) s.2 s.3
+      (subst₂ (λ x y. DsegAlong links.tl links.pv x y (term_value w l) (term_value w u) heap) s.0 s.1 h)
 
   pub atoms-other_values : (links : Links) (atoms : List Numbered) (heap : Heap) → AllInAtoms Same atoms
       → AtomsHold w links atoms heap → AtomsHold v links atoms heap

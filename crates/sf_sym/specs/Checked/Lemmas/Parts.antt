@@ -10,17 +10,18 @@ use Rattle.sf_base.specs.declared.value.Value.{Value}
 use Rattle.sf_base.specs.declared.value.Value.TheVariants.{Nil as nil, Int as int}
 use Rattle.sf_base.specs.HeapStore.{Heap, Splits}
 use Rattle.sf_sym.specs.declared.atom.Atom.{Atom}
-use Rattle.sf_sym.specs.declared.atom.Atom.TheVariants.{Points, Ls, Tree}
+use Rattle.sf_sym.specs.declared.atom.Atom.TheVariants.{Points, Ls, Tree, Dll}
 use Rattle.sf_sym.specs.declared.atom.Numbered.{Numbered}
 use Rattle.sf_core.specs.declared.fields.Links.{Links}
 use Rattle.sf_sym.specs.declared.term.Term.{Term}
 use Rattle.sf_sym.specs.declared.term.Term.TheVariants.{Nil, Int, Sym}
-use Rattle.sf_sym.specs.Holds.{term_value, Differ, SegAlong, TreeAlong, AtomHolds, AtomsHold}
+use Rattle.sf_sym.specs.Holds.{term_value, Differ, DsegAlong, SegAlong, TreeAlong, AtomHolds, AtomsHold}
 use Rattle.sf_sym.specs.Checked.Laws.{IsLocationIn}
 use Rattle.sf_sym.specs.Tests.{same_term, begins, is_allocated_in, is_at_constant, is_constant, roots, has_cell, allocates, is_integer_tree, is_impossible, has_repeat}
 use Rattle.sf_base.proofs.MapSplits.{splits-has_left, splits-has_right, splits-lacks_right}
 use Rattle.sf_base.proofs.HeapSplits.{one-in}
 use Rattle.sf_base.proofs.Bools.{and-left, and-right}
+use Rattle.sf_core.proofs.Assertions.DoubleSegments.{dseg-first_cell, dseg-last_cell}
 use Rattle.sf_core.proofs.Assertions.Segments.{loc-same, seg-first}
 use Rattle.sf_core.proofs.Assertions.Trees.{tree-root}
 use Rattle.sf_sym.specs.Checked.Lemmas.{same_term_is}
@@ -68,6 +69,18 @@ seg_along-located None from to h n s = absurd s
 seg_along-located (Some next) from to h n s =
     let f = seg-first n s in record { location = f.0; here = f.1; is = f.2; there = f.3 }
 
+-- a doubly linked segment whose ends differ has a cell at its first and one at its last location
+pub dseg_along-located : (next back : Option FieldId) (from before last to : Value) (h : Heap) → from ≢ to
+    → DsegAlong next back from before last to h → IsLocationIn h from × IsLocationIn h last
+dseg_along-located None back from before last to h n s = absurd s
+dseg_along-located (Some next) None from before last to h n s = absurd s
+dseg_along-located (Some next) (Some back) from before last to h n s =
+    let f = dseg-first_cell n s in
+    let g = dseg-last_cell n s in (
+      record { location = f.0; here = f.1; is = f.2; there = f.3 },
+      record { location = g.0; here = g.1; is = g.2; there = g.3 },
+    )
+
 -- a tree of another value than nil has its root at a location
 pub tree_along-located : (left right : Option FieldId) (v : Value) (h : Heap) → v ≢ nil
     → TreeAlong left right v h → IsLocationIn h v
@@ -87,6 +100,9 @@ module _ (w : ℕ → Value) (links : Links) (apart : List (Term × Term))
   atom-located (Ls t u) h e s = (seg_along-located links.tl _ _ h (direct-differs w apart t u differ e) s, tt)
   atom-located (Tree t) h e s =
       (tree_along-located links.l links.r _ h (direct-differs w apart t Nil differ e) s, tt)
+  atom-located (Dll v p l u) h e s =
+      let both = dseg_along-located links.tl links.pv _ _ _ _ h (direct-differs w apart v u differ e) s in
+      (both.0, (both.1, tt))
 
   -- a term that an atom allocates is a location
   pub atom-allocated : (t : Term) (a : Atom) (h : Heap) → allocates apart t a ≡ true → AtomHolds w links a h
@@ -140,6 +156,7 @@ module _ (w : ℕ → Value) (links : Links) (apart : List (Term × Term))
       let l = tree_along-located links.l links.r (int i) h (λ p. absurd (cc)) s in
       term-constant_no_location w (Int i) l.location refl l.is
   atom-no_integer_tree (Tree (Sym n)) h e s = absurd (cc)
+  atom-no_integer_tree (Dll v p l u) h e s = absurd (cc)
 
   -- no heap has an impossible atom
   pub atom-possible : (a : Atom) (h : Heap) → is_impossible apart a ≡ true → AtomHolds w links a h → ⊥

@@ -18,7 +18,7 @@ use Rattle.sf_core.specs.declared.assertion.Operand.{Operand}
 use Rattle.sf_core.specs.declared.assertion.Operand.TheVariants.{Known, Exists}
 use Rattle.sf_core.specs.declared.assertion.Test.{Test}
 use Rattle.sf_core.specs.declared.assertion.Test.TheVariants.{True, Equal, Differ}
-use Rattle.sf_core.specs.Program.Syntax.{Conjunct, holds, points, segment, tree, choose, Level, level, Conjuncts, none, also}
+use Rattle.sf_core.specs.Program.Syntax.{Conjunct, holds, points, segment, doubly, tree, choose, Level, level, Conjuncts, none, also}
 use Rattle.sf_sym.specs.Below.{AllInItem, AllInPending, IsBelow}
 use Rattle.sf_sym.specs.declared.term.Term.{Term}
 use Rattle.sf_sym.specs.Equalities.{assumed_equal, item_with, pending_with, put_for, which_goes, with_one}
@@ -57,6 +57,8 @@ mutual
   same-conjunct (holds p t) = ap (holds p) (same-test t)
   same-conjunct (points p x fs) = ap₂ (points p) (same-operand x) (same-fields fs)
   same-conjunct (segment p next x y) = ap₂ (segment p next) (same-operand x) (same-operand y)
+  same-conjunct (doubly p f g x b l y) =
+      λ i. doubly p f g (same-operand x i) (same-operand b i) (same-operand l i) (same-operand y i)
   same-conjunct (tree p l r x) = ap (tree p l r) (same-operand x)
   same-conjunct (choose p t this that) =
       λ i. choose p (same-test t i) (same-level this i) (same-level that i)

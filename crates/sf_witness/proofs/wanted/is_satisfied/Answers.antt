@@ -1,4 +1,4 @@
-use Rattle.std.proofs.Common.{◌↔◌, IsTrue, List, ap, ◌∙◌, subst}
+use Rattle.std.proofs.Common.{◌↔◌, IsTrue, List, Option, ap, ◌∙◌, subst}
 use Rattle.std.proofs.lemmas.Result.{IfOk-weaker}
 use Rattle.sf_base.specs.declared.ids.FieldId.{FieldId}
 use Rattle.sf_core.specs.declared.assertion.Operand.{Operand}
@@ -6,7 +6,8 @@ use Rattle.sf_core.specs.Program.View.{conjunct_of}
 use Rattle.sf_heap.specs.Cells.{heap_of}
 use Rattle.sf_sym.specs.declared.term.Term.{Term}
 use Rattle.sf_witness.specs.Checked.Meeting.{HasCellAs}
-use Rattle.sf_witness.proofs.Views.{holds-in, plain-by, points-in, segment-in, through, tree-in, view-holds, view-points, view-segment, view-tree}
+use Rattle.sf_witness.specs.Checked.Wishes.{HasDoubleOf}
+use Rattle.sf_witness.proofs.Views.{double-in, holds-in, plain-by, points-in, segment-in, through, tree-in, view-doubly, view-holds, view-points, view-segment, view-tree}
 use Rattle.sf_witness.proofs.wanted.is_satisfied.Goals as goal
 
 pub returns-in-Holds : goal.returns-in-Holds
@@ -33,6 +34,17 @@ returns-in-Segment c = IfOk-weaker c.has_wanted_segment.result _ _ (λ b d.
     (through b _ _ d
     (segment-in (heap_of c.args.heap.now) c.args.want.bindings.now c.in-Segment.field-0 c.in-Segment.next
     c.in-Segment.from c.in-Segment.to))) c.has_wanted_segment.ensures
+
+pub returns-in-Doubly : goal.returns-in-Doubly
+returns-in-Doubly c =
+    let heap = heap_of c.args.heap.now in
+    let p = c.in-Doubly in
+    IfOk-weaker c.has_wanted_double.result _ _ (λ b d. plain-by heap c.args.want.bindings.now _ _ b
+    (ap conjunct_of p.is ∙ view-doubly p.field-0 p.next p.back p.from p.before p.last p.to)
+    (through b _ _ (subst (λ (o : Option (Term × Term × Term × Term)). IsTrue b ↔ HasDoubleOf p.next p.back o heap)
+    c.four-terms.ensures d)
+    (double-in heap c.args.want.bindings.now p.field-0 p.next p.back p.from p.before p.last p.to)))
+    c.has_wanted_double.ensures
 
 pub returns-in-Tree : goal.returns-in-Tree
 returns-in-Tree c = IfOk-weaker c.has_wanted_tree.result _ _ (λ b d.

@@ -1,7 +1,6 @@
-use Rattle.std.proofs.Common.{◌++◌, ◌∷◌, [], map, refl, sym, ap, ap₂, ◌∙◌, subst}
-use Rattle.std.proofs.lemmas.List.{append-nil, append_assoc}
-use Rattle.sf_sym.specs.Checked.Empties.{empties, empty_numbers}
-use Rattle.sf_sym.specs.Checked.Rows.{row_of}
+use Rattle.std.proofs.Common.{◌++◌, map, sym, ap, ap₂, ◌∙◌, subst}
+use Rattle.std.proofs.lemmas.List.{append-nil}
+use Rattle.sf_sym.specs.Checked.Empties.{empties}
 use Rattle.sf_sym.specs.Equalities.{numbered_with, put_for}
 use Rattle.sf_sym.specs.Numbers.{AreRising, numbers}
 use Rattle.sf_sym.proofs.EmptyNumbers.{empty-next, rising-front, rising-next}

@@ -12,7 +12,10 @@ returns-in_err-cover_at-clause-kept c =
     λ apart rows atoms part kept.
     kept-same apart rows atoms s.roots s.cells s.marks kept part s.roots c.cover_at.new.cells
     c.cover_at.new.marks (λ t r h. h) (λ t r h. h) c.cover_at.ensures.still
-    (λ t r h. elim (c.cover_at.ensures.only t r h) [ inl k ↦ kept.cells_of_rows t r k | inr k ↦ kept.of_rows t r k ])
+    (λ t r h. elim (c.cover_at.ensures.only t r h) [
+      | inl k ↦ kept.cells_of_rows t r k
+      | inr k ↦ ((kept.of_rows k.0.0 r k.0.1).0, k.1)
+    ])
     c.cover_at.ensures.marked
     (λ r h. elim (c.cover_at.ensures.marks r h) [ inl k ↦ kept.marked r k | inr k ↦ (kept.of_rows k.0 r k.1).0 ])
 
@@ -25,8 +28,11 @@ returns-clause-kept c =
     kept-same apart rows atoms s.roots s.cells s.marks kept part s.roots c.cover_at-2.new.cells
     c.cover_at-2.new.marks (λ t r h. h) (λ t r h. h) (λ t r h. two.still t r (one.still t r h))
     (λ t r h. elim (two.only t r h) [
-      | inl j ↦ elim (one.only t r j) [ inl k ↦ kept.cells_of_rows t r k | inr k ↦ kept.of_rows t r k ]
-      | inr k ↦ kept.of_rows t r k
+      | inl j ↦ elim (one.only t r j) [
+        | inl k ↦ kept.cells_of_rows t r k
+        | inr k ↦ ((kept.of_rows k.0.0 r k.0.1).0, k.1)
+      ]
+      | inr k ↦ ((kept.of_rows k.0.0 r k.0.1).0, k.1)
     ])
     (λ r h. two.marked r (one.marked r h))
     (λ r h. elim (two.marks r h) [

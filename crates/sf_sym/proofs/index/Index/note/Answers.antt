@@ -1,12 +1,9 @@
-use Rattle.std.proofs.Common.{inl, inr, not, sym, ap, ◌∙◌, subst}
+use Rattle.std.proofs.Common.{inl, inr, not, sym, ap, ◌∙◌}
 use Rattle.std.proofs.lemmas.Bool.{and_from}
 use Rattle.sf_base.proofs.Bools.{and-left, and-right, not-both}
 use Rattle.sf_sym.specs.declared.outline.Row.{Row}
-use Rattle.sf_sym.specs.Checked.Keeping.{In}
-use Rattle.sf_sym.specs.Checked.Lemmas.{same_term_is}
-use Rattle.sf_sym.specs.Checked.Rows.{bare, is_marked, rows_at, same_row}
-use Rattle.sf_sym.specs.Tests.{root}
-use Rattle.sf_sym.proofs.Entering.{begins-at, cells-only, cells-still}
+use Rattle.sf_sym.specs.Checked.Rows.{is_marked, same_row}
+use Rattle.sf_sym.proofs.Entering.{cells-only, cells-still}
 use Rattle.sf_sym.proofs.Indexed.{at-err}
 use Rattle.sf_sym.proofs.Kept.{kept-same}
 use Rattle.sf_sym.proofs.Members.{not-true}
@@ -22,7 +19,7 @@ returns-in_err-mark-clause-err c =
     (λ t r h. h) (λ t r h. h) (λ t r h. h) kept.cells_of_rows c.mark.ensures.still
     (λ r h. elim (c.in_err-mark.ensures.err r h) [
       | inl k ↦ kept.marked r k
-      | inr k ↦ (kept.of_rows (root (bare c.args.row.outline)) r k).0
+      | inr k ↦ (kept.of_rows k.0 r k.1).0
     ]))
 
 pub returns-in-Ok-clause-ok : goal.returns-in-Ok-clause-ok
@@ -36,18 +33,14 @@ returns-in-Ok-clause-ok c =
       marks_only = λ r h. elim (c.in_ok-mark.ensures.only r h) [
         | inl k ↦ inl (elim k [
           | inl m ↦ kept.marked r m
-          | inr m ↦ (kept.of_rows (root (bare row.outline)) r m).0
+          | inr m ↦ (kept.of_rows m.0 r m.1).0
         ])
         | inr k ↦ inr k
       ];
       marks_still = c.mark.ensures.still;
       has_mark = c.in_ok-mark.ensures.row;
       cell = λ e t b.
-          let is = cell ∙ e in
-          let at = same_term_is t (root (bare row.outline)) (sym (begins-at t (bare row.outline)) ∙ b) in (
-            (c.in-Ok.ensures.cells is).there t b,
-            (λ r h. c.in_ok-mark.ensures.beside is r (subst (λ z. In r (rows_at s.roots z)) at h)),
-          );
+          let is = cell ∙ e in ((c.in-Ok.ensures.cells is).there t b, c.in_ok-mark.ensures.beside is t b);
     }
 
 pub returns-in-Err-clause-err : goal.returns-in-Err-clause-err
@@ -60,7 +53,8 @@ returns-in-Err-clause-err c =
     kept-same apart rows atoms s.roots s.cells s.marks kept parts c.enter.new.roots c.enter.new.cells
     c.remove.new.self
     (λ t r h. undone.0.others t r h (new r (kept.of_rows t r h).0)) undone.0.only
-    (λ t r h. subst (In r) (sym (undone.1 t)) h) (λ t r h. kept.cells_of_rows t r (subst (In r) (undone.1 t) h))
+    (λ t r h. undone.1.others t r h (new r (kept.cells_of_rows t r h).0))
+    (λ t r h. kept.cells_of_rows t r (undone.1.only t r h))
     (λ r h. c.remove.ensures r
     ∙ and_from (not (same_row r row)) (is_marked marked r)
     (ap not (not-true (same_row r row)
@@ -72,7 +66,7 @@ returns-in-Err-clause-err c =
     elim (c.in_ok-mark.ensures.only r (and-right (not (same_row r row)) (is_marked marked r) both)) [
       | inl k ↦ elim k [
         | inl m ↦ kept.marked r m
-        | inr m ↦ (kept.of_rows (root (bare row.outline)) r m).0
+        | inr m ↦ (kept.of_rows m.0 r m.1).0
       ]
       | inr e ↦ absurd (not-both (same_row r row) (ap (λ x. same_row x row) e ∙ same_row_self row) one)
     ])

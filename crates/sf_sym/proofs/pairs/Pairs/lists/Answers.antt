@@ -1,21 +1,30 @@
-use Rattle.std.proofs.Common.{◌∙◌, ◌||◌, sym, ap}
+use Rattle.std.proofs.Common.{◌∙◌, ◌||◌, IfSome, sym, ap, subst}
 use Rattle.std.specs.List.{list_any}
 use Rattle.sf_sym.specs.Tests.{is_pair}
+use Rattle.sf_sym.specs.Checked.Sets.{AreSame}
 use Rattle.sf_sym.proofs.PairSets.{is_key, listed}
 use Rattle.sf_sym.proofs.pairs.Pairs.lists.Goals as goal
 
 pub returns-then-contains : goal.returns-then-contains
 returns-then-contains c =
+    let list = c.self.inside.list.items in
+    let keys = c.in-Some.set.keys in
+    let same : AreSame list keys =
+    subst (λ s. IfSome s (λ it. AreSame list it.keys)) c.in-Some.is c.self.invariant.0 in
     c.if-contains.true
-    ∙ sym (ap (λ b. b || list_any (is_key c.args.u c.args.t) c.self.inside.set.keys)
+    ∙ sym (ap (λ b. b || list_any (is_key c.args.u c.args.t) keys)
     (sym c.contains.ensures ∙ c.if-contains.true))
-    ∙ listed c.args.t c.args.u c.self.inside.list.items c.self.inside.set.keys c.self.invariant.0
+    ∙ listed c.args.t c.args.u list keys same
     ∙ ap (list_any (is_pair c.args.t c.args.u)) c.self.view_is
 
 pub returns-else-contains : goal.returns-else-contains
 returns-else-contains c =
+    let list = c.self.inside.list.items in
+    let keys = c.in-Some.set.keys in
+    let same : AreSame list keys =
+    subst (λ s. IfSome s (λ it. AreSame list it.keys)) c.in-Some.is c.self.invariant.0 in
     c.contains-else-contains.ensures
-    ∙ sym (ap (λ b. b || list_any (is_key c.args.u c.args.t) c.self.inside.set.keys)
+    ∙ sym (ap (λ b. b || list_any (is_key c.args.u c.args.t) keys)
     (sym c.contains.ensures ∙ c.if-contains.false))
-    ∙ listed c.args.t c.args.u c.self.inside.list.items c.self.inside.set.keys c.self.invariant.0
+    ∙ listed c.args.t c.args.u list keys same
     ∙ ap (list_any (is_pair c.args.t c.args.u)) c.self.view_is

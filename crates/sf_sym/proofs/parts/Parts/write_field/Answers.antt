@@ -30,6 +30,16 @@ unreachable-requires-in-Tree c =
     let none : fields_at x.atom c.args.root ≡ None = ap (λ y. fields_at y c.args.root) c.in-Tree.is in
     not_a_cell c.args.a c.in-Some.i x c.args.self.now c.args.root (search rules) at none c.requires.cell
 
+pub unreachable-requires-in-Dll : goal.unreachable-requires-in-Dll
+unreachable-requires-in-Dll c =
+    let x = c.index_mut.result.now in
+    let there : x ≡ get_or c.self.inside.places.items (c.self.inside.left + c.in-Some.i) x = search rules in
+    let at : x ≡ get_or c.args.self.now c.in-Some.i x =
+    there ∙ sym (get_or-drop c.self.inside.left c.self.inside.places.items c.in-Some.i x)
+    ∙ ap (λ xs. get_or xs c.in-Some.i x) c.self.view_is in
+    let none : fields_at x.atom c.args.root ≡ None = ap (λ y. fields_at y c.args.root) c.in-Dll.is in
+    not_a_cell c.args.a c.in-Some.i x c.args.self.now c.args.root (search rules) at none c.requires.cell
+
 pub returns-clause-ok : goal.returns-clause-ok
 returns-clause-ok c = λ fields cell.
     let inside = c.self.inside in

@@ -1,4 +1,4 @@
-use Rattle.std.proofs.Common.{◌∙◌, ◌||◌, cond, sym, ap, Some, None, is_some}
+use Rattle.std.proofs.Common.{◌∙◌, cond, sym, ap, Some, None, is_some}
 use Rattle.std.specs.Map.{lookup}
 use Rattle.sf_sym.specs.Checked.Rows.{is_marked, rows_at, same_row}
 use Rattle.sf_sym.specs.contracts.term.TermPartialEq.TheImpl.{eq-value}

@@ -1,6 +1,6 @@
-use Rattle.std.proofs.Common.{◌∙◌, ◌&&◌, map, cond, not, sym, ap, Some, None, is_some}
+use Rattle.std.proofs.Common.{◌∙◌, map, cond, sym, ap, Some, None, is_some}
 use Rattle.std.specs.Map.{lookup}
-use Rattle.sf_sym.specs.Checked.Rows.{is_marked, rows_at, same_row}
+use Rattle.sf_sym.specs.Checked.Rows.{is_marked, rows_at}
 use Rattle.sf_sym.specs.contracts.term.TermPartialEq.TheImpl.{eq-value}
 use Rattle.sf_sym.proofs.Indexed.{put-less, put-twice, none-left, none-less, at-seen, items_or}
 use Rattle.sf_sym.proofs.SameRows.{marked-less}

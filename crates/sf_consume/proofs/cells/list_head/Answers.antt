@@ -1,5 +1,5 @@
 use Rattle.std.proofs.Common.{rules}
-use Rattle.sf_consume.proofs.cells.head.Goals as goal
+use Rattle.sf_consume.proofs.cells.list_head.Goals as goal
 
 pub returns-clause-answers : goal.returns-clause-answers
 returns-clause-answers c =
