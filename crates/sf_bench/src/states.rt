@@ -10,9 +10,10 @@ use std::alloc::{AllocError, Global};
 const MOST: u32 = 1_000_000;
 
 /// A state without atoms that has so many symbols.
-fn empty(alloc: Global, symbols: u32) -> State {
+fn empty(alloc: Global, symbols: u32) -> Result<State, AllocError> {
     let links = Links {
         tl: None,
+        pv: None,
         l: None,
         r: None,
     };
@@ -32,7 +33,7 @@ fn add(state: &mut State, atom: Atom) -> Result<(), AllocError> {
 pub fn segments(alloc: Global, count: u32) -> Result<State, AllocError>
     requires { count < 1000000 }
 {
-    let mut state = empty(alloc, count + 1);
+    let mut state = empty(alloc, count + 1)?;
     for i in 0..count {
         add(&mut state, Atom::Ls(Term::Sym(i), Term::Sym(i + 1)))?;
         if i % 2 == 0 {
@@ -46,7 +47,7 @@ pub fn segments(alloc: Global, count: u32) -> Result<State, AllocError>
 pub fn shared_cells(alloc: Global, count: u32, symbols: u32) -> Result<State, AllocError>
     requires { 0 < symbols }
 {
-    let mut state = empty(alloc, symbols);
+    let mut state = empty(alloc, symbols)?;
     for i in 0..count {
         let root = Term::Sym(i % symbols);
         add(&mut state, Atom::Points(root, FieldTerms::new(alloc)))?;
@@ -56,7 +57,7 @@ pub fn shared_cells(alloc: Global, count: u32, symbols: u32) -> Result<State, Al
 
 /// So many lists from one symbol, of none of which it is known whether it is empty.
 pub fn lists(alloc: Global, count: u32) -> Result<State, AllocError> {
-    let mut state = empty(alloc, 1);
+    let mut state = empty(alloc, 1)?;
     for _ in 0..count {
         add(&mut state, Atom::Ls(Term::Sym(0), Term::Nil))?;
     }

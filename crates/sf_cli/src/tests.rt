@@ -2,6 +2,7 @@
 
 mod commands;
 mod compared;
+mod doubles;
 mod examples;
 mod fetches;
 mod files;
@@ -25,6 +26,10 @@ use crate::top::smallfoot;
 use crate::usage::USAGE;
 use commands::{DEMOS, RECHECKS, VERDICTS};
 use compared::{FAILED, PROVED};
+use doubles::{
+    FAILED_DOUBLES, NO_PROOFS_OF_DOUBLES, PROOFS_OF_DOUBLES, PROVED_DOUBLES, REPLAYS_OF_DOUBLES,
+    RUNS_OF_DOUBLES, WITNESSES_OF_DOUBLES,
+};
 use examples::EXAMPLES;
 use files::{FILES, set};
 use proofs::{ACCEPTED, CALL_PROOFS, REFUSED, TEXTS};
@@ -295,6 +300,15 @@ fn programs_have_their_verdicts(rt: HostRuntime) -> Result<(), Fail> {
 }
 
 #[test]
+fn doubly_linked_lists_have_their_answers(rt: HostRuntime) -> Result<(), Fail> {
+    are_answered(&rt, rt.alloc(), &PROVED_DOUBLES)?;
+    are_answered(&rt, rt.alloc(), &FAILED_DOUBLES)?;
+    are_said(&rt, rt.alloc(), &WITNESSES_OF_DOUBLES)?;
+    are_said(&rt, rt.alloc(), &RUNS_OF_DOUBLES)?;
+    are_replayed(&rt, rt.alloc(), &REPLAYS_OF_DOUBLES)
+}
+
+#[test]
 fn answers_are_those_of_another_implementation(rt: HostRuntime) -> Result<(), Fail> {
     are_answered(&rt, rt.alloc(), &PROVED)?;
     are_answered(&rt, rt.alloc(), &FAILED)
@@ -332,6 +346,12 @@ fn proofs_have_their_answers(rt: HostRuntime) -> Result<(), Fail> {
     are_rechecked(&rt, rt.alloc(), &TEXTS)?;
     are_rechecked(&rt, rt.alloc(), &ACCEPTED)?;
     are_rechecked(&rt, rt.alloc(), &REFUSED)
+}
+
+#[test]
+fn proofs_of_doubly_linked_lists_have_their_answers(rt: HostRuntime) -> Result<(), Fail> {
+    are_rechecked(&rt, rt.alloc(), &PROOFS_OF_DOUBLES)?;
+    are_rechecked(&rt, rt.alloc(), &NO_PROOFS_OF_DOUBLES)
 }
 
 #[test]

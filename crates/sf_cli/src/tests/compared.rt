@@ -4,14 +4,17 @@
 mod append;
 mod beside;
 mod both;
+mod both_ways;
 mod buffer;
 mod copy;
 mod disposal;
+mod ends;
 mod filter;
 mod forgotten;
 mod gone;
 mod grab;
 mod last;
+mod one_way;
 mod queue;
 mod reverse;
 mod ring;
@@ -22,7 +25,7 @@ mod twice;
 mod walk;
 
 /// Files that it proves.
-pub const PROVED: [(&[u8], &str); 10] = [
+pub const PROVED: [(&[u8], &str); 12] = [
     buffer::FILE,
     ring::FILE,
     scopes::FILE,
@@ -33,10 +36,12 @@ pub const PROVED: [(&[u8], &str); 10] = [
     queue::FILE,
     last::FILE,
     copy::FILE,
+    both_ways::FILE,
+    ends::FILE,
 ];
 
 /// Files with a procedure that it has no proof of.
-pub const FAILED: [(&[u8], &str); 9] = [
+pub const FAILED: [(&[u8], &str); 10] = [
     tied::FILE,
     twice::FILE,
     filter::FILE,
@@ -46,4 +51,5 @@ pub const FAILED: [(&[u8], &str); 9] = [
     both::FILE,
     gone::FILE,
     walk::FILE,
+    one_way::FILE,
 ];

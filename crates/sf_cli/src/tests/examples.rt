@@ -1,7 +1,7 @@
 //! The files of examples/, copied, and the answers to them, worked out by hand.
 
 /// The files of examples/, and their answers.
-pub const EXAMPLES: [(&[u8], &str); 18] = [
+pub const EXAMPLES: [(&[u8], &str); 21] = [
     (
         b"set(x) [x|->] { x->tl = 3; } [x|->tl:3]\n",
         "accepted\nprocedure set\nadd\nmutate 1\nreturn\ncell 1\nend\n",
@@ -323,6 +323,153 @@ procedure count
 enter; enter; assign; exit; give; exit; give; return; end
 procedure main
 fork; give; return; end
+",
+    ),
+    (
+        b"/* A doubly linked list, with its first and its last cell at hand: a cell is added behind the last one, one is taken out of
+   the middle, and all are visited from the back. */
+hd, tl, pv;
+
+add(first, last; value) [dll(first,nil,last,nil)] {
+  local cell;
+  cell = new();
+  cell->hd = value;
+  cell->tl = nil;
+  cell->pv = last;
+  if (last == nil) first = cell;
+  else last->tl = cell;
+  last = cell;
+} [dll(first,nil,last,nil)]
+
+remove(first, last; cell) [dll(first,nil,_before,cell) * cell|->tl:_after,pv:_before * dll(_after,cell,last,nil)] {
+  local before, after;
+  before = cell->pv;
+  after = cell->tl;
+  if (before == nil) first = after;
+  else before->tl = after;
+  if (after == nil) last = before;
+  else after->pv = before;
+  dispose(cell);
+} [dll(first,nil,last,nil)]
+
+clear(first, last) [dll(first,nil,last,nil)] {
+  local at, after;
+  at = last;
+  while (at != nil) [dll(first,nil,at,after) * dll(after,at,last,nil)] {
+    at->hd = nil;
+    after = at;
+    at = at->pv;
+  }
+} [dll(first,nil,last,nil)]
+",
+        "accepted; procedure add
+add; new; mutate 2; mutate 2; mutate 2; split s1 nil; then; assign; assign; return; head 2; empty
+split s0 nil; drop 1; end; absurd; else; split s0 nil; force 1; absurd; back 1; mutate 4; assign
+return; join 3; head 4; head 2; empty; end
+procedure remove
+add; add; add; look 1; look 1; split s4 nil; then; assign; split s3 nil; force 3; drop 3; then
+assign; dispose 1; return; empty; split s0 s1; drop 2; end; absurd; else; unroll 3; mutate 4
+dispose 1; return; head 4; exact 5; split s0 s2; drop 2; end; absurd; else; split s0 s2; force 2
+absurd; back 2; mutate 5; split s3 nil; force 3; drop 3; then; assign; dispose 1; return
+split s0 nil; absurd; join 4; head 5; empty; end; else; unroll 3; mutate 6; dispose 1; return
+split s0 nil; absurd; join 4; head 5; head 6; exact 7; end
+procedure clear
+add; assign; loop; exact 1; empty; around; add; add; add; split s0 s3; force 2; absurd; back 2
+mutate 5; assign; look 5; again; exact 4; head 5; exact 3; end; add; add; add; return
+split s0 nil; force 2; drop 2; force 3; drop 3; empty; end; join 2; exact 3; end
+",
+    ),
+    (
+        b"/* As in doubly.sf, but the cell behind the one that is taken out still points back at it. */
+hd, tl, pv;
+
+remove(first, last; cell) [dll(first,nil,_before,cell) * cell|->tl:_after,pv:_before * dll(_after,cell,last,nil)] {
+  local before, after;
+  before = cell->pv;
+  after = cell->tl;
+  if (before == nil) first = after;
+  else before->tl = after;
+  if (after == nil) last = before;
+  dispose(cell);
+} [dll(first,nil,last,nil)]
+",
+        "failed remove at 12:1 NotEqual
+vars first = s3, last = s1, cell = s0, before = nil, after = s3
+apart s0 != nil, s3 != nil
+atoms 3: dll(s3,s0,s1,nil)
+taken
+want s0 == nil
+",
+    ),
+    (
+        b"/* Jobs in a doubly linked list that threads share: its owner puts jobs at the back and takes the newest from there, and others
+   take the oldest from the front. */
+hd, tl, pv;
+
+resource jobs (front, back) [dll(front,nil,back,nil)]
+
+init() { front = nil; back = nil; }
+
+put(value) {
+  local job;
+  job = new();
+  job->hd = value;
+  job->tl = nil;
+  with jobs when (true) {
+    job->pv = back;
+    if (back == nil) front = job;
+    else back->tl = job;
+    back = job;
+  }
+}
+
+take(value;) {
+  local job;
+  with jobs when (back != nil) {
+    job = back;
+    back = job->pv;
+    if (back == nil) front = nil;
+    else back->tl = nil;
+  }
+  value = job->hd;
+  dispose(job);
+}
+
+steal(value;) {
+  local job;
+  with jobs when (front != nil) {
+    job = front;
+    front = job->tl;
+    if (front == nil) back = nil;
+    else front->pv = nil;
+  }
+  value = job->hd;
+  dispose(job);
+}
+
+both(newest, oldest;) {
+  put(1);
+  put(2);
+  take(newest;) || steal(oldest;);
+}
+",
+        "accepted; procedure init
+assign; assign; return; empty; end
+procedure put
+new; mutate 1; mutate 1; enter; add; mutate 1; split s3 nil; then; assign; assign; exit; head 1
+empty; give; return; split s2 nil; drop 2; end; absurd; else; split s2 nil; force 2; absurd
+back 2; mutate 4; assign; exit; join 3; head 4; head 1; empty; give; return; end
+procedure take
+enter; add; add; assign; split s1 nil; force 1; absurd; back 1; look 3; split s3 nil; then; assign
+exit; empty; give; look 3; dispose 3; return; split s1 s2; drop 2; end; absurd; else; split s1 s2
+force 2; absurd; back 2; mutate 5; exit; join 4; head 5; empty; give; look 3; dispose 3; return
+end
+procedure steal
+enter; add; add; assign; unroll 1; look 2; split s3 nil; force 3; drop 3; then; assign; exit
+empty; give; look 2; dispose 2; return; end; else; unroll 3; mutate 4; exit; head 4; exact 5; give
+look 2; dispose 2; return; end
+procedure both
+call; give; call; give; fork; give; return; end
 ",
     ),
 ];

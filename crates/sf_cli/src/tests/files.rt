@@ -4,6 +4,7 @@
 pub mod buffer;
 pub mod chain;
 pub mod copy;
+pub mod doubles;
 pub mod forking;
 pub mod free;
 pub mod fresh;
@@ -20,7 +21,7 @@ pub mod two;
 pub mod vacuous;
 
 /// What is on the shelf: names and texts.
-pub const FILES: [(&str, &str); 20] = [
+pub const FILES: [(&str, &str); 23] = [
     ("set.sf", set::FILE),
     ("tree.sf", tree::FILE),
     ("leak.sf", leak::FILE),
@@ -40,5 +41,8 @@ pub const FILES: [(&str, &str); 20] = [
     ("vac.sf", vacuous::FILE),
     ("free.sf", free::FILE),
     ("calls.sf", fresh::FILE),
+    ("last.sf", doubles::LAST),
+    ("ends.sf", doubles::ENDS),
+    ("jobs.sf", doubles::SHARED),
     ("bad.sf", "f() { @ }"),
 ];

@@ -14,6 +14,7 @@ fn add_places(cs: &[Conjunct<Expr>], found: &mut Vec<(u32, u32)>) -> Result<(), 
             Conjunct::Holds(place, _) => found.push((place.line, place.column))?,
             Conjunct::Points(place, _, _) => found.push((place.line, place.column))?,
             Conjunct::Segment(place, _, _, _) => found.push((place.line, place.column))?,
+            Conjunct::Doubly(place, ..) => found.push((place.line, place.column))?,
             Conjunct::Tree(place, _, _, _) => found.push((place.line, place.column))?,
             Conjunct::If(place, _, this, that) => {
                 found.push((place.line, place.column))?;

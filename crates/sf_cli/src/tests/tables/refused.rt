@@ -31,16 +31,20 @@ pub const BAD_WORDS: [(&[u8], &str); 11] = [
 ];
 
 /// Files that are refused by the grammar.
-pub const BAD_GRAMMAR: [(&[u8], &str); 5] = [
+pub const BAD_GRAMMAR: [(&[u8], &str); 9] = [
     (b"f() { } ]", "10 Unexpected at 1:9"),
     (b"f(x)", "10 Unexpected at 1:5"),
     (b"f(nil) { }", "10 Unexpected at 1:3"),
     (b"f(x) { x->hd = x }", "10 Unexpected at 1:18"),
     (b"f() { x = ; }", "10 Unexpected at 1:11"),
+    (b"dll() { }", "10 Unexpected at 1:1"),
+    (b"f(dll) { }", "10 Unexpected at 1:3"),
+    (b"f(x) { x->dll = x; }", "10 Unexpected at 1:11"),
+    (b"tl, pv; f(x) [dll(x,nil,x)] { }", "10 Unexpected at 1:26"),
 ];
 
 /// Files that are refused for names, with the name.
-pub const BAD_NAMES: [(&[u8], &str); 38] = [
+pub const BAD_NAMES: [(&[u8], &str); 46] = [
     (b"f(x) { g(x); }", "20 UnknownName at 1:8 g"),
     (b"f(x,x) { }", "21 Twice at 1:5 x"),
     (b"f(x) { f(x;); }", "22 Arity at 1:8 f"),
@@ -97,6 +101,35 @@ pub const BAD_NAMES: [(&[u8], &str); 38] = [
         "23 OwnedTwice at 1:31 v",
     ),
     (b"a,b,c,d,e,f,g,h,i,j,k,l,m,n,o,p,a;", "21 Twice at 1:33 a"),
+    (b"f(x) [dll(x,nil,x,nil)] { }", "25 MissingField at 1:7 pv"),
+    (
+        b"pv; f(x) [dll(x,nil,x,nil)] { }",
+        "25 MissingField at 1:11 tl",
+    ),
+    (
+        b"q; f(x) [dll(y,nil,x,nil)] { }",
+        "25 MissingField at 1:10 tl",
+    ),
+    (
+        b"tl; f(x) [list(x) * dll(x,nil,y,nil)] { }",
+        "25 MissingField at 1:21 pv",
+    ),
+    (
+        b"tl, pv; f(x) [dll(y,nil,x,nil)] { }",
+        "20 UnknownName at 1:19 y",
+    ),
+    (
+        b"tl, pv; f(x) [dll(x,y,z,w)] { }",
+        "20 UnknownName at 1:21 y",
+    ),
+    (
+        b"tl, pv; f(x) [dll(x,x,z,w)] { }",
+        "20 UnknownName at 1:23 z",
+    ),
+    (
+        b"tl, pv; f(x) [dll(x,x,x,w)] { }",
+        "20 UnknownName at 1:25 w",
+    ),
 ];
 
 /// Files that break conditions on variables.
@@ -204,7 +237,7 @@ d() { with r when (true) { c(); } }",
 ];
 
 /// Files with annotations that aren't determined.
-pub const UNDETERMINED: [(&[u8], &str); 8] = [
+pub const UNDETERMINED: [(&[u8], &str); 13] = [
     (b"resource r (v) [tree(_x)]", "40 Undetermined at 1:17"),
     (
         b"f(x) [(if x == nil then _y == nil else emp) * ls(x,_y)] { }",
@@ -227,5 +260,25 @@ pub const UNDETERMINED: [(&[u8], &str); 8] = [
     (
         b"f(x) { while (true) [list(_l)] { } }",
         "40 Undetermined at 1:22",
+    ),
+    (
+        b"tl, pv; f(x) [dll(_a,x,x,x)] { }",
+        "40 Undetermined at 1:15",
+    ),
+    (
+        b"tl, pv; f(x) [dll(x,_a,x,x)] { }",
+        "40 Undetermined at 1:15",
+    ),
+    (
+        b"tl, pv; f(x) [dll(x,x,_a,x)] { }",
+        "40 Undetermined at 1:15",
+    ),
+    (
+        b"tl, pv; f(x) [dll(x,x,x,_a)] { }",
+        "40 Undetermined at 1:15",
+    ),
+    (
+        b"tl, pv; f(x) [dll(_n,x,_p,nil) * x|->tl:_n] { }",
+        "40 Undetermined at 1:15",
     ),
 ];
