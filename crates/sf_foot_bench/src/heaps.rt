@@ -13,7 +13,7 @@ fn put(
     second: Value,
 ) -> Result<(), AllocError> {
     let values = vec![in alloc; first, second]?;
-    let cell = Box::new(alloc, Cell::from_values(values))?;
+    let cell = Cell::from_values(values);
     if heap.put(at, cell).is_err() {
         return Err(AllocError);
     }

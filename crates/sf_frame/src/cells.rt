@@ -41,8 +41,7 @@ pub(crate) fn make_cell(
         → HasWidth count heap.new }
 {
     let values = Vec::from_slice(alloc, fields.values())?;
-    let cell = Box::new(alloc, Cell::from_values(values))?;
-    match heap.put(at, cell) {
+    match heap.put(at, Cell::from_values(values)) {
         Ok(()) => Ok(()),
         Err(_) => Err(AllocError),
     }

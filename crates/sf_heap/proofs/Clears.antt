@@ -45,7 +45,7 @@ module _ (f : ℕ → Option FieldValues) where
 
   -- of entries with a first one: it is at no such location, and nor is one of the others
   pub clear-first : (e : Entry) (es : List Entry) → AreClear f (e ∷ es) → f e.at ≡ None
-  clear-first e es h = none_apart (f e.at) e.cell.value (subst (Apart (f e.at)) (at-same e.at e.at _ _ refl) (h e.at))
+  clear-first e es h = none_apart (f e.at) e.cell (subst (Apart (f e.at)) (at-same e.at e.at _ _ refl) (h e.at))
 
   pub clear-rest : (e : Entry) (es : List Entry) → AreClear f (e ∷ es) → AreClear f es
   clear-rest e es h q = elim (cases_eq q e.at) [

@@ -61,8 +61,8 @@ copied-cells : (hand cells from_hand from_cells : Tree) → cells_of (tops hand)
     → cells_of (entries_of cells) ≡ cells_of (entries_of from_cells)
     → cells_of (kept hand cells) ≡ cells_of (kept from_hand from_cells)
 copied-cells hand cells from_hand from_cells top is =
-    map-append (λ (e : Entry). (e.at, e.cell.value)) (tops hand) (entries_of cells) ∙ ap₂ (λ xs ys. xs ++ ys) top is
-    ∙ sym (map-append (λ (e : Entry). (e.at, e.cell.value)) (tops from_hand) (entries_of from_cells))
+    map-append (λ (e : Entry). (e.at, e.cell)) (tops hand) (entries_of cells) ∙ ap₂ (λ xs ys. xs ++ ys) top is
+    ∙ sym (map-append (λ (e : Entry). (e.at, e.cell)) (tops from_hand) (entries_of from_cells))
 
 -- are the same map, and as many
 pub copied-map : (hand cells from_hand from_cells : Tree) → cells_of (tops hand) ≡ cells_of (tops from_hand)
@@ -74,5 +74,5 @@ pub copied-count : (hand cells from_hand from_cells : Tree) → cells_of (tops h
     → cells_of (entries_of cells) ≡ cells_of (entries_of from_cells)
     → length (kept hand cells) ≡ length (kept from_hand from_cells)
 copied-count hand cells from_hand from_cells top is =
-    sym (length-map (kept hand cells) (λ (e : Entry). (e.at, e.cell.value))) ∙ ap length (copied-cells hand cells from_hand from_cells top is)
-    ∙ length-map (kept from_hand from_cells) (λ (e : Entry). (e.at, e.cell.value))
+    sym (length-map (kept hand cells) (λ (e : Entry). (e.at, e.cell))) ∙ ap length (copied-cells hand cells from_hand from_cells top is)
+    ∙ length-map (kept from_hand from_cells) (λ (e : Entry). (e.at, e.cell))

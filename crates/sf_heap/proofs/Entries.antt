@@ -28,13 +28,13 @@ found-below q (e ∷ before) es h = at-other q e.at _ _ (λ s. omega (arith, h.0
 
 -- with an entry more, its location has its cell, and the others what they had
 pub found-one_more : (q : ℕ) (before : List Entry) (e : Entry) (after : List Entry) → AllBelow e.at before
-    → found q (before ++ e ∷ after) ≡ cond (eq_by_cmp nat_cmp q e.at) (Some e.cell.value) (found q (before ++ after))
+    → found q (before ++ e ∷ after) ≡ cond (eq_by_cmp nat_cmp q e.at) (Some e.cell) (found q (before ++ after))
 found-one_more q [] e after h = refl
 found-one_more q (b ∷ before) e after h = elim (cases_eq q b.at) [
   | inl same ↦ at-same q b.at _ _ same ∙ sym (at-same q b.at _ _ same)
       ∙ sym (at-other q e.at _ _ (λ s. omega (arith, h.0)))
   | inr other ↦ at-other q b.at _ _ other ∙ found-one_more q before e after h.1
-      ∙ ap (cond (eq_by_cmp nat_cmp q e.at) (Some e.cell.value)) (sym (at-other q b.at _ _ other))
+      ∙ ap (cond (eq_by_cmp nat_cmp q e.at) (Some e.cell)) (sym (at-other q b.at _ _ other))
 ]
 
 -- above an entry less, above a lower one
@@ -66,11 +66,11 @@ Rises-more (b ∷ before) e after h below above =
 
 -- the map with an entry more
 pub map-more : (before : List Entry) (e : Entry) (after : List Entry) → AllBelow e.at before
-    → map_of (before ++ e ∷ after) ≡ insert (map_of (before ++ after)) e.at e.cell.value
+    → map_of (before ++ e ∷ after) ≡ insert (map_of (before ++ after)) e.at e.cell
 map-more before e after below = same_cells _ _ (λ q.
     get-map_of (before ++ e ∷ after) q ∙ found-one_more q before e after below
-    ∙ sym (get-insert nat_cmp_total (map_of (before ++ after)) e.at e.cell.value q
-    ∙ ap (cond (eq_by_cmp nat_cmp q e.at) (Some e.cell.value)) (get-map_of (before ++ after) q)))
+    ∙ sym (get-insert nat_cmp_total (map_of (before ++ after)) e.at e.cell q
+    ∙ ap (cond (eq_by_cmp nat_cmp q e.at) (Some e.cell)) (get-map_of (before ++ after) q)))
 
 -- the map with an entry less
 pub map-less : (before : List Entry) (e : Entry) (after : List Entry) → AllBelow e.at before → AllAbove e.at after
@@ -86,16 +86,16 @@ map-less before e after below above = same_cells _ _ (λ q.
 
 -- the map with another cell at one location
 pub map-other : (before : List Entry) (e f : Entry) (after : List Entry) → AllBelow e.at before → f.at ≡ e.at
-    → map_of (before ++ f ∷ after) ≡ insert (map_of (before ++ e ∷ after)) e.at f.cell.value
+    → map_of (before ++ f ∷ after) ≡ insert (map_of (before ++ e ∷ after)) e.at f.cell
 map-other before e f after below same = same_cells _ _ (λ q.
     get-map_of (before ++ f ∷ after) q
     ∙ found-one_more q before f after (subst (λ at. AllBelow at before) (sym same) below)
-    ∙ ap (λ at. cond (eq_by_cmp nat_cmp q at) (Some f.cell.value) (found q (before ++ after))) same
+    ∙ ap (λ at. cond (eq_by_cmp nat_cmp q at) (Some f.cell) (found q (before ++ after))) same
     ∙ elim (cases_eq q e.at) [
       | inl here ↦ at-same q e.at _ _ here
-          ∙ sym (get-insert nat_cmp_total (map_of (before ++ e ∷ after)) e.at f.cell.value q ∙ at-same q e.at _ _ here)
+          ∙ sym (get-insert nat_cmp_total (map_of (before ++ e ∷ after)) e.at f.cell q ∙ at-same q e.at _ _ here)
       | inr other ↦ at-other q e.at _ _ other
-          ∙ sym (get-insert nat_cmp_total (map_of (before ++ e ∷ after)) e.at f.cell.value q ∙ at-other q e.at _ _ other
+          ∙ sym (get-insert nat_cmp_total (map_of (before ++ e ∷ after)) e.at f.cell q ∙ at-other q e.at _ _ other
           ∙ get-map_of (before ++ e ∷ after) q ∙ found-one_more q before e after below ∙ at-other q e.at _ _ other)
     ])
 
@@ -103,6 +103,6 @@ map-other before e f after below same = same_cells _ _ (λ q.
 pub len-map_of : (es : List Entry) → Rises es → len (map_of es) ≡ length es
 len-map_of [] h = len-empty nat_cmp FieldValues
 len-map_of (e ∷ es) h =
-    len-insert nat_cmp_total (map_of es) e.at e.cell.value
+    len-insert nat_cmp_total (map_of es) e.at e.cell
     ∙ ap (λ o. cond (is_some o) (len (map_of es)) (len (map_of es) + 1)) (get-map_of es e.at ∙ found-above e.at es h.0)
     ∙ ap (λ n. n + 1) (len-map_of es h.1) ∙ omega arith

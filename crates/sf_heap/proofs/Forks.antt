@@ -81,7 +81,7 @@ module _ (below : List Entry) (e : Entry) (above : List Entry) (rises : Rises (b
       found-below at below (e ∷ above) (AllBelow-weaker e.at at below h left-below)
       ∙ at-other at e.at _ _ (λ s. omega (arith, h))
 
-  pub found-here : (at : ℕ) → at ≡ e.at → found at (below ++ e ∷ above) ≡ Some e.cell.value
+  pub found-here : (at : ℕ) → at ≡ e.at → found at (below ++ e ∷ above) ≡ Some e.cell
   found-here at h = found-one_more at below e above left-below ∙ at-same at e.at _ _ h
 
   -- where nothing is found at a location, the entry has another one
@@ -101,9 +101,9 @@ module _ (old : List Entry) (x : Entry) (new : List Entry) (m : IsMore old x new
   Rises-taken h = subst Rises (sym m.was) (Rises-less m.before x m.after (subst Rises m.is h)).0
 
   -- what is found then
-  pub found-more : (q : ℕ) → found q new ≡ cond (eq_by_cmp nat_cmp q x.at) (Some x.cell.value) (found q old)
+  pub found-more : (q : ℕ) → found q new ≡ cond (eq_by_cmp nat_cmp q x.at) (Some x.cell) (found q old)
   found-more q = ap (found q) m.is ∙ found-one_more q m.before x m.after m.below
-      ∙ ap (λ es. cond (eq_by_cmp nat_cmp q x.at) (Some x.cell.value) (found q es)) (sym m.was)
+      ∙ ap (λ es. cond (eq_by_cmp nat_cmp q x.at) (Some x.cell) (found q es)) (sym m.was)
 
   -- it wasn't there before
   pub found-none : found x.at old ≡ None
@@ -114,9 +114,9 @@ module _ (old : List Entry) (x : Entry) (new : List Entry) (m : IsMore old x new
   length-more = omega (arith, ap length m.is, ap length m.was, length-append m.before (x ∷ m.after), length-append m.before m.after)
 
   -- the map has its cell more
-  pub map-put : map_of new ≡ insert (map_of old) x.at x.cell.value
+  pub map-put : map_of new ≡ insert (map_of old) x.at x.cell
   map-put = ap map_of m.is ∙ map-more m.before x m.after m.below
-      ∙ ap (λ es. insert (map_of es) x.at x.cell.value) (sym m.was)
+      ∙ ap (λ es. insert (map_of es) x.at x.cell) (sym m.was)
 
   -- or less
   pub map-taken : map_of old ≡ remove (map_of new) x.at

@@ -19,7 +19,7 @@ use Rattle.sf_heap.proofs.Entries.{get-map_of, len-map_of, map-other}
 pub kept-len : (hand cells : Tree) → AreKept hand cells → len (map_of (kept hand cells)) ≡ length (kept hand cells)
 kept-len Empty cells k = len-map_of (entries_of cells) k
 kept-len (Fork' p e h b a) cells k =
-    len-insert nat_cmp_total (map_of (entries_of cells)) e.at e.cell.value
+    len-insert nat_cmp_total (map_of (entries_of cells)) e.at e.cell
     ∙ ap (λ o. cond (is_some o) (len (map_of (entries_of cells))) (len (map_of (entries_of cells)) + 1))
     (get-map_of (entries_of cells) e.at ∙ k.1)
     ∙ ap (λ n. n + 1) (len-map_of (entries_of cells) k.0) ∙ omega arith

@@ -50,7 +50,7 @@ module _ (into below : List Entry) (e : Entry) (above : List Entry) (rises : Ris
 
   -- they have none at the location of the entry
   not_there : found e.at into ≡ None
-  not_there = none_apart (found e.at into) e.cell.value
+  not_there = none_apart (found e.at into) e.cell
       (subst (Apart (found e.at into)) (found-here below e above rises e.at refl) (apart e.at))
 
   module _ (first : List Entry) (m : IsMerge into below first) where
@@ -91,7 +91,7 @@ module _ (into below : List Entry) (e : Entry) (above : List Entry) (rises : Ris
         sizes = omega (arith, last.sizes, length-more first e second more, m.sizes, length-append below (e ∷ above));
       }
         where
-          both : (q : ℕ) → option_or (cond (eq_by_cmp nat_cmp q e.at) (Some e.cell.value) (found q first)) (found q above)
+          both : (q : ℕ) → option_or (cond (eq_by_cmp nat_cmp q e.at) (Some e.cell) (found q first)) (found q above)
               ≡ option_or (found q into) (option_or (found q below) (found q (e ∷ above)))
           both q = elim (cases_eq q e.at) [
             | inl same ↦ ap (λ o. option_or o (found q above)) (at-same q e.at _ _ same)

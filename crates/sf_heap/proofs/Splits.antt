@@ -54,8 +54,8 @@ Splits-heap_of whole left right s = record {
 -- what is found in two lists, one after the other
 pub found-append : (q : ℕ) (xs ys : List Entry) → found q (xs ++ ys) ≡ option_or (found q xs) (found q ys)
 found-append q [] ys = refl
-found-append q (e ∷ xs) ys = elim (eq_by_cmp nat_cmp q e.at) as (λ b. cond b (Some e.cell.value) (found q (xs ++ ys))
-    ≡ option_or (cond b (Some e.cell.value) (found q xs)) (found q ys)) [ true ↦ refl | false ↦ found-append q xs ys ]
+found-append q (e ∷ xs) ys = elim (eq_by_cmp nat_cmp q e.at) as (λ b. cond b (Some e.cell) (found q (xs ++ ys))
+    ≡ option_or (cond b (Some e.cell) (found q xs)) (found q ys)) [ true ↦ refl | false ↦ found-append q xs ys ]
 
 -- apart the other way round
 Apart-swap : {X : Type 0} (x y : Option X) → Apart x y → Apart y x

@@ -13,5 +13,5 @@ IsPresent (Err (OutOfMemory cell)) = ⊥
 
 -- the cell that comes back
 abbrev pub cell_in : HeapFault → FieldValues
-cell_in (Present cell) = cell.value
-cell_in (OutOfMemory cell) = cell.value
+cell_in (Present cell) = cell
+cell_in (OutOfMemory cell) = cell

@@ -2,7 +2,7 @@
 
 ghost use Rattle.std.specs.Prelude.{◌≡◌, ◌↔◌, IfNone, IfErr, IfOk, IsTrue, OnOk, OnErr, All};
 ghost use Rattle.std.specs.FinMap as map;
-ghost use Rattle.std.specs.Option.{option_map, option_copied, option_copied_mut};
+ghost use Rattle.std.specs.Option.{option_copied, option_copied_mut};
 ghost use Rattle.sf_heap.specs.Cells.{AreAt, AreDisjoint, HasCell, heap_of};
 ghost use Rattle.sf_base.specs.HeapStore.{Splits};
 
@@ -29,9 +29,9 @@ pub struct Heap {
 #[derive(Debug, Drop)]
 pub enum HeapFault {
     /// The location has a cell.
-    Present(Box<Cell>),
+    Present(Cell),
     /// Memory ran out.
-    OutOfMemory(Box<Cell>),
+    OutOfMemory(Cell),
 }
 
 impl Model for Heap {
@@ -130,14 +130,15 @@ impl Heap {
     }
 
     /// Takes the cell at a location out, or answers `None` exactly where there is none.
-    pub fn take(&mut self, at: u64) -> Option<Box<Cell>>
-        ensures value { option_map (λ b. b.value) result ≡ map.get self.old at }
+    pub fn take(&mut self, at: u64) -> Option<Cell>
+        ensures value { result ≡ map.get self.old at }
         ensures rest { self.new ≡ map.remove self.old at }
         ensures absent { IfNone result (self.new ≡ self.old) }
     {
         let hand = replace(&mut self.hand, Tree::Empty);
         let cells = replace(&mut self.cells, Tree::Empty);
-        let (taken, cells) = whole(hand, cells).without(at);
+        let mut cells = whole(hand, cells);
+        let (taken, _) = cells.take_out(at);
         self.cells = cells;
         match taken {
             Some(node) => {
@@ -150,11 +151,11 @@ impl Heap {
 
     /// Puts a cell at a location. `Present` comes exactly where the location has a cell. Any `Err`
     /// hands the cell back and changes nothing.
-    pub fn put(&mut self, at: u64, cell: Box<Cell>) -> Result<(), HeapFault>
-        ensures ok { OnOk result (self.new ≡ map.insert self.old at cell.value) }
+    pub fn put(&mut self, at: u64, cell: Cell) -> Result<(), HeapFault>
+        ensures ok { OnOk result (self.new ≡ map.insert self.old at cell) }
         ensures err { OnErr result (self.new ≡ self.old) }
         ensures present { IsPresent result ↔ HasCell self.old at }
-        ensures cell_returned { IfErr result (λ fault. cell_in fault ≡ cell.value) }
+        ensures cell_returned { IfErr result (λ fault. cell_in fault ≡ cell) }
     {
         if self.get(at).is_some() {
             return Err(HeapFault::Present(cell));
@@ -166,7 +167,9 @@ impl Heap {
             Ok(node) => {
                 let hand = replace(&mut self.hand, Tree::Empty);
                 let cells = replace(&mut self.cells, Tree::Empty);
-                self.cells = Tree::Fork(whole(hand, cells).with(node));
+                let mut cells = whole(hand, cells);
+                cells.put_in(node);
+                self.cells = cells;
                 self.count = count;
                 Ok(())
             }

@@ -11,16 +11,16 @@ use crate::heap::Heap;
 use crate::tree::{Tree, opened};
 
 /// The cell on top of a tree that is in hand, and the others, as one tree.
-pub(crate) fn whole(hand: Tree, cells: Tree) -> Tree
+pub(crate) fn whole(hand: Tree, mut cells: Tree) -> Tree
     requires { AreKept hand cells }
     ensures rises { Rises (entries_of result) }
     ensures same { map_of (entries_of result) ≡ map_of (kept hand cells) }
     ensures size { length (entries_of result) ≡ length (kept hand cells) }
 {
-    match hand {
-        Tree::Empty => cells,
-        Tree::Fork(node) => Tree::Fork(cells.with(node)),
+    if let Tree::Fork(node) = hand {
+        cells.put_in(node);
     }
+    cells
 }
 
 /// The same cells, of which the one at a location is in hand, or none where there is none.
@@ -34,7 +34,8 @@ pub(crate) fn brought(hand: Tree, cells: Tree, at: u64) -> (Tree, Tree)
     if hand.top_at(at).is_some() {
         return (hand, cells);
     }
-    let (taken, cells) = whole(hand, cells).without(at);
+    let mut cells = whole(hand, cells);
+    let (taken, _) = cells.take_out(at);
     match taken {
         Some(node) => (Tree::Fork(node), cells),
         None => (Tree::Empty, cells),
@@ -66,7 +67,8 @@ fn poured(from: Tree, into: Tree) -> Tree
         return into;
     };
     let (below, node, above) = opened(node);
-    let into = Tree::Fork(poured(below, into).with(node));
+    let mut into = poured(below, into);
+    into.put_in(node);
     poured(above, into)
 }
 
@@ -88,7 +90,7 @@ pub(crate) fn parted(cells: Tree, at: &[u64]) -> (Tree, Tree)
 }
 
 /// The same once the cell at one location more is moved from the second of two trees to the first.
-fn moved(part: Tree, rest: Tree, at: u64) -> (Tree, Tree)
+fn moved(mut part: Tree, mut rest: Tree, at: u64) -> (Tree, Tree)
     requires part_rises { Rises (entries_of part) }
     requires rest_rises { Rises (entries_of rest) }
     requires absent { found at (entries_of part) ≡ None }
@@ -96,11 +98,11 @@ fn moved(part: Tree, rest: Tree, at: u64) -> (Tree, Tree)
     ensures { IsMoved (entries_of part) (entries_of rest) at
         (entries_of result.0) (entries_of result.1) }
 {
-    let (taken, rest) = rest.without(at);
-    let Some(node) = taken else {
-        return (part, rest);
-    };
-    (Tree::Fork(part.with(node)), rest)
+    let (taken, _) = rest.take_out(at);
+    if let Some(node) = taken {
+        part.put_in(node);
+    }
+    (part, rest)
 }
 
 /// Whether the cell on top of a tree isn't at a location of a heap's.

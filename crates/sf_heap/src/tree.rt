@@ -15,7 +15,7 @@ use std::mem::replace;
 #[derive(Debug, Drop)]
 pub(crate) struct Entry {
     pub(crate) at: u64,
-    pub(crate) cell: Box<Cell>,
+    pub(crate) cell: Cell,
 }
 
 /// Cells in order of location: none, or a fork.
@@ -55,19 +55,19 @@ impl Entry {
     /// The same cell at the same location. An `Err` says that memory ran out.
     fn copy(&self, alloc: Global) -> Result<Entry, AllocError>
         ensures at { IfOk result (λ e. e.at ≡ self.now.at) }
-        ensures cell { IfOk result (λ e. e.cell.value ≡ self.now.cell.value) }
+        ensures cell { IfOk result (λ e. e.cell ≡ self.now.cell) }
     {
         let values = Vec::from_slice(alloc, self.cell.values())?;
-        let cell = Box::new(alloc, Cell::from_values(values))?;
+        let cell = Cell::from_values(values);
         Ok(Entry { at: self.at, cell })
     }
 
     /// The cell, to be written.
     fn cell_mut(&mut self) -> &mut Cell
         ensures* writes_back { sem 𝓛 (LendsIts self.entry result) }
-        ensures value { result.now ≡ self.old.cell.value }
+        ensures value { result.now ≡ self.old.cell }
     {
-        self.cell.as_mut()
+        &mut self.cell
     }
 }
 
@@ -108,7 +108,7 @@ impl Tree {
         let mut tree = self;
         while let Tree::Fork(node) = tree {
             if at == node.entry.at {
-                return Some(node.entry.cell.as_ref());
+                return Some(&node.entry.cell);
             }
             tree = if at < node.entry.at {
                 &node.below
@@ -127,7 +127,7 @@ impl Tree {
             return None;
         };
         if node.entry.at == at {
-            return Some(node.entry.cell.as_ref());
+            return Some(&node.entry.cell);
         }
         None
     }
@@ -143,45 +143,66 @@ impl Tree {
         }
     }
 
-    /// These cells and one more, at a location that has none.
-    pub(crate) fn with(self, new: Box<Node>) -> Box<Node>
-        requires rises { Rises (entries_of self) }
-        requires absent { found new.value.entry.at (entries_of self) ≡ None }
-        ensures { IsMore (entries_of self) new.value.entry (entries_in result.value) }
+    /// Puts one more cell in, at a location that has none. Whether the tree is higher now.
+    pub(crate) fn put_in(&mut self, new: Box<Node>) -> bool
+        requires rises { Rises (entries_of self.old) }
+        requires absent { found new.value.entry.at (entries_of self.old) ≡ None }
+        ensures { IsMore (entries_of self.old) new.value.entry (entries_of self.new) }
     {
-        let Tree::Fork(node) = self else {
-            return flat(new, Tree::Empty, Tree::Empty);
+        let Tree::Fork(mut node) = replace(self, Tree::Empty) else {
+            *self = Tree::Fork(flat(new, Tree::Empty, Tree::Empty));
+            return true;
         };
-        let (below, node, above) = opened(node);
         if new.entry.at < node.entry.at {
-            let below = Tree::Fork(below.with(new));
-            return balanced(node, below, above);
+            let is_higher = node.below.put_in(new);
+            *self = Tree::Fork(node);
+            return is_higher && self.mend();
         }
-        let above = Tree::Fork(above.with(new));
-        balanced(node, below, above)
+        let is_higher = node.above.put_in(new);
+        *self = Tree::Fork(node);
+        is_higher && self.mend()
     }
 
-    /// The cell at a location, taken out, if there is one, and the others.
-    pub(crate) fn without(self, at: u64) -> (Option<Box<Node>>, Tree)
-        requires { Rises (entries_of self) }
-        ensures same { IfNone result.0 (entries_of result.1 ≡ entries_of self) }
-        ensures absent { IfNone result.0 (found at (entries_of self) ≡ None) }
+    /// Takes the cell at a location out, if there is one, and leaves the others. Beside it,
+    /// whether the tree is lower now.
+    pub(crate) fn take_out(&mut self, at: u64) -> (Option<Box<Node>>, bool)
+        requires { Rises (entries_of self.old) }
+        ensures same { IfNone result.0 (entries_of self.new ≡ entries_of self.old) }
+        ensures absent { IfNone result.0 (found at (entries_of self.old) ≡ None) }
         ensures taken { IfSome result.0 (λ node.
-            IsTaken (entries_of self) at node.value.entry (entries_of result.1)) }
+            IsTaken (entries_of self.old) at node.value.entry (entries_of self.new)) }
     {
-        let Tree::Fork(node) = self else {
-            return (None, Tree::Empty);
+        let Tree::Fork(mut node) = replace(self, Tree::Empty) else {
+            return (None, false);
         };
-        let (below, node, above) = opened(node);
         if at < node.entry.at {
-            let (taken, below) = below.without(at);
-            return (taken, Tree::Fork(balanced(node, below, above)));
+            let (taken, is_lower) = node.below.take_out(at);
+            *self = Tree::Fork(node);
+            return (taken, is_lower && self.mend());
         }
         if node.entry.at < at {
-            let (taken, above) = above.without(at);
-            return (taken, Tree::Fork(balanced(node, below, above)));
+            let (taken, is_lower) = node.above.take_out(at);
+            *self = Tree::Fork(node);
+            return (taken, is_lower && self.mend());
         }
-        (Some(node), below.then(above))
+        let height = node.height;
+        let (below, node, above) = opened(node);
+        *self = below.then(above);
+        (Some(node), self.height() != height)
+    }
+
+    /// Mends the heights where one of the two sides has another one. Whether the height of the
+    /// whole is another one now.
+    fn mend(&mut self) -> bool
+        ensures { entries_of self.new ≡ entries_of self.old }
+    {
+        let height = self.height();
+        let Tree::Fork(node) = replace(self, Tree::Empty) else {
+            return false;
+        };
+        let (below, node, above) = opened(node);
+        *self = Tree::Fork(balanced(node, below, above));
+        self.height() != height
     }
 
     /// These cells and those of another tree, which come after them. The heights of the two differ
@@ -192,6 +213,9 @@ impl Tree {
         let Tree::Fork(node) = above else {
             return self;
         };
+        if let Tree::Empty = self {
+            return Tree::Fork(node);
+        }
         let (first, rest) = split_first(node);
         Tree::Fork(balanced(first, self, rest))
     }
@@ -223,7 +247,7 @@ impl Tree {
 }
 
 /// The cell of a node.
-pub(crate) fn into_cell(node: Box<Node>) -> Box<Cell>
+pub(crate) fn into_cell(node: Box<Node>) -> Cell
     ensures { result ≡ node.value.entry.cell }
 {
     Box::into_inner(node).entry.cell
@@ -233,6 +257,7 @@ pub(crate) fn into_cell(node: Box<Node>) -> Box<Cell>
 pub(crate) fn opened(mut node: Box<Node>) -> (Tree, Box<Node>, Tree)
     ensures below { result.0 ≡ node.value.below }
     ensures above { result.2 ≡ node.value.above }
+    ensures entry { result.1.value.entry ≡ node.value.entry }
     ensures entries { entries_in node.value
         ≡ entries_of result.0 ++ result.1.value.entry ∷ entries_of result.2 }
 {

@@ -10,7 +10,7 @@ const TURNS: u32 = 20_000;
 /// Puts a cell there, where there is none.
 fn put(alloc: Global, heap: &mut Heap, at: u64) -> Result<(), AllocError> {
     let values = vec![in alloc; Value::Nil]?;
-    let cell = Box::new(alloc, Cell::from_values(values))?;
+    let cell = Cell::from_values(values);
     if heap.put(at, cell).is_err() {
         return Err(AllocError);
     }

@@ -87,7 +87,7 @@ fn heap_with(alloc: Global, cells: &[(u64, Value, Value)]) -> Result<Heap, Fail>
     let mut heap = Heap::new(alloc);
     for (at, first, second) in cells {
         let values = vec![in alloc; *first, *second]?;
-        heap.put(*at, Box::new(alloc, Cell::from_values(values))?)?;
+        heap.put(*at, Cell::from_values(values))?;
     }
     Ok(heap)
 }

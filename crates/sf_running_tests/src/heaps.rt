@@ -7,9 +7,8 @@ use std::process::Abort;
 use std::test::Fail;
 
 /// A cell whose one field holds that location.
-fn numbered(alloc: Global, l: u64) -> Result<Box<Cell>, AllocError> {
-    let values = vec![in alloc; Value::Loc(l)]?;
-    Ok(Box::new(alloc, Cell::from_values(values))?)
+fn numbered(alloc: Global, l: u64) -> Result<Cell, AllocError> {
+    Ok(Cell::from_values(vec![in alloc; Value::Loc(l)]?))
 }
 
 /// A heap with such a cell at each of the locations.

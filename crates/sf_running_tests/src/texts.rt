@@ -185,9 +185,9 @@ fn a_state_is_written_in_canonical_order(rt: HostRuntime) -> Result<(), Fail> {
     let alloc = rt.alloc();
     let mut heap = Heap::new(alloc);
     let second = Cell::from_values(vec![in alloc; Value::Int(-5), NIL]?);
-    heap.put(12, Box::new(alloc, second)?)?;
+    heap.put(12, second)?;
     let first = Cell::from_values(vec![in alloc; NIL, Value::Loc(12)]?);
-    heap.put(3, Box::new(alloc, first)?)?;
+    heap.put(3, first)?;
     let at = Locations::from_vec(vec![in alloc; 12, 3]?);
     let values = [Value::Loc(3), Value::Int(7)];
     let p = fitted(alloc, b"hd, tl; f(p; q) { local i; }").expect(&rt, "a program");

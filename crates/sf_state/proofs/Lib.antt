@@ -17,7 +17,6 @@ pub mod FootDecided
 pub mod Beginning
 pub mod Deciding
 pub mod StateShape
-pub mod Rising
 pub mod Spelling
 pub mod Back
 pub mod Naming

@@ -46,7 +46,7 @@ use Rattle.sf_state.specs.StateText.{state_text}
 use Rattle.sf_state.proofs.Deciding.{fault-once, precise-notes, start-no_fault}
 use Rattle.sf_state.proofs.FirstNamed.{entries-one, faults-one, first-named, holds-none, holds-one, never-both}
 use Rattle.sf_state.proofs.NextFound.{there-at}
-use Rattle.sf_state.proofs.Rising.{rising-keys, rising-same}
+use Rattle.sf_heap.specs.Checked.Lemmas.Rising.{rising-keys, rising-same}
 use Rattle.sf_state.proofs.StateOnce.{state-once, state-vars}
 use Rattle.sf_state.proofs.Turns.{ArePrecise}
 use Rattle.sf_state.proofs.Without.{member-decides}

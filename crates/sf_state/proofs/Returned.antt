@@ -31,7 +31,7 @@ use Rattle.sf_state.proofs.Back.{AreWritten, finished-back, text-back}
 use Rattle.sf_state.proofs.WrittenLines.{AreCells, EachWritable, IsCell}
 use Rattle.sf_state.proofs.Naming.{placed-fields, placed-names}
 use Rattle.sf_state.proofs.Once.{finish-keys}
-use Rattle.sf_state.proofs.Rising.{rising-keys, rising-same}
+use Rattle.sf_heap.specs.Checked.Lemmas.Rising.{rising-keys, rising-same}
 
 -- each of values that can be written can be, past their end too
 returned-each : (values : List Value) → ((v : Value) → Contains values v → IsWritable v) → EachWritable values

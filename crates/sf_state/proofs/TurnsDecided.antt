@@ -23,7 +23,7 @@ use Rattle.sf_foot.specs.Checked.Laws.{HasFootprintOrNone}
 use Rattle.sf_state.specs.Starts.{HaveFootprints, IsUnmet, without}
 use Rattle.sf_state.proofs.NextFound.{distinct-append}
 use Rattle.sf_state.proofs.Once.{finish-keys}
-use Rattle.sf_state.proofs.Rising.{rising-keys}
+use Rattle.sf_heap.specs.Checked.Lemmas.Rising.{rising-keys}
 use Rattle.sf_state.proofs.Without.{foot-whole, member-decides, without-append, without-other, without-taken}
 use Rattle.sf_state.proofs.StateExists.{by_cmp}
 

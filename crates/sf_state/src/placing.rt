@@ -19,9 +19,9 @@ use std::alloc::{AllocError, Global};
 use std::collections::BTreeMap;
 
 /// Puts a cell at a location without one.
-fn put_new(heap: &mut Heap, at: u64, cell: Box<Cell>) -> Result<(), StartFault>
+fn put_new(heap: &mut Heap, at: u64, cell: Cell) -> Result<(), StartFault>
     requires { fin.contains_key heap.old at ≡ false }
-    ensures ok { OnOk result (heap.new ≡ fin.insert heap.old at cell.value) }
+    ensures ok { OnOk result (heap.new ≡ fin.insert heap.old at cell) }
     ensures err { IfErr result (λ e. e ≡ StartFault.OutOfMemory) }
 {
     match heap.put(at, cell) {
@@ -44,7 +44,7 @@ pub(crate) fn heap_of(
     let mut heap = Heap::new(alloc);
     let mut at = Vec::with_capacity(alloc, cells.len())?;
     while let Some((location, cell)) = cells.pop_first() {
-        put_new(&mut heap, location, Box::new(alloc, cell)?)?;
+        put_new(&mut heap, location, cell)?;
         at.push(location)?;
     }
     Ok((heap, Locations::from_vec(at)))

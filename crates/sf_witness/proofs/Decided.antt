@@ -40,7 +40,7 @@ use Rattle.sf_witness.specs.Located.{located, value_at}
 use Rattle.sf_witness.specs.Wanted.{IsIn, IsThere, IsTrueEquality, WantHolds, first_of, left_heap, misfit, plain, printed_value, there_value, wanted, wanted_cell, whole_heap}
 use Rattle.sf_witness.proofs.Equations.{among-rest, consistent-new, default-bound, meets-found, meets-new, meets-term, nothing-consistent, refutes-found, refutes-term, with_default}
 use Rattle.sf_witness.proofs.Finite.{cells-heap, cells_of_atoms}
-use Rattle.sf_witness.proofs.Rising.{keys-at}
+use Rattle.sf_heap.specs.Checked.Lemmas.Rising.{keys-at}
 use Rattle.sf_witness.proofs.Heaps.{len-decides}
 use Rattle.sf_witness.proofs.HeapParts.{foot-part, nothing_made, part-foot}
 use Rattle.sf_witness.proofs.Wants.{equality-none, equality-some}

@@ -134,11 +134,11 @@ put-present m n c there = λ i l. at l (l == suc n) refl i
     at l false e = or-none (heap_of m l) ∙ sym (ap (λ b. option_or (heap_of m l) (cond b (Some c) None)) e)
 
 -- as the code puts it
-pub put-ok : (m new : Cells) (n at : ℕ) (t : Term) (k v : FieldValues) → new ≡ insert m (at + 1) v → at ≡ n → v ≡ k
+pub put-ok : (m new : Cells) (n at : ℕ) (t : Term) (k : FieldValues) → new ≡ insert m (at + 1) k → at ≡ n
     → t ≡ Sym n → (HasCell m (at + 1) → ⊥) → heap_of new ≡ beside (heap_of m) (one_cell t (cell_of k))
-put-ok m new n at t k v e f g h none =
+put-ok m new n at t k e f h none =
     let s : at + 1 ≡ suc n = omega (arith, f) in
-    ap heap_of e ∙ (λ i. heap_of (insert m (s i) (g i)))
+    ap heap_of e ∙ (λ i. heap_of (insert m (s i) k))
     ∙ put-new m n k (λ c. none (subst (HasCell m) (sym s) c))
     ∙ ap (λ z. beside (heap_of m) (one_cell z (cell_of k))) (sym h)
 

@@ -7,7 +7,6 @@ mod Wishes
 mod Views
 mod Wants
 mod Texts
-mod Rising
 mod Finite
 mod Decided
 pub mod OneText

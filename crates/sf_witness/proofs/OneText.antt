@@ -20,7 +20,7 @@ use Rattle.sf_witness.specs.WitnessText.{IsTextOfWitness, WitnessText, cell_line
 use Rattle.sf_witness.proofs.Decided.{IsDecided, want-decided}
 use Rattle.sf_witness.proofs.Finite.{cells-heap, cells_of_atoms}
 use Rattle.sf_witness.proofs.Normality.{normal_has, normal_is}
-use Rattle.sf_witness.proofs.Rising.{keys-at, rising-keys, rising-same}
+use Rattle.sf_heap.specs.Checked.Lemmas.Rising.{keys-at, rising-keys, rising-same}
 use Rattle.sf_witness.proofs.Texts.{heap-at}
 
 -- a state is normal or not

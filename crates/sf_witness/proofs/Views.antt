@@ -1,5 +1,5 @@
--- How the code's conjuncts of terms are read, form by form; and when a part of a heap satisfies one.
--- Names: `view-FORM`, `FORM-in`.
+-- When a part of a heap satisfies a conjunct of terms, form by form.
+-- Names: `FORM-in`.
 use Rattle.std.specs.Option.{option_map}
 use Rattle.std.proofs.Common.{◌≡◌, ◌↔◌, ℕ, Bool, IsTrue, List, Option, Some, None, Vec, Global, refl, sym, ap, ◌∙◌, subst, subst₂}
 use Rattle.sf_base.specs.declared.ids.FieldId.{FieldId}
@@ -26,30 +26,6 @@ use Rattle.sf_witness.specs.Checked.Wishes.{HasDoubleOf, HasSegmentWith, HasTree
 use Rattle.sf_witness.specs.Located.{located, value_at}
 use Rattle.sf_witness.specs.Wanted.{IsIn, IsSatisfied, plain}
 use Rattle.sf_witness.proofs.Equations.{default-bound, operand-term, with_default}
-
-pub view-holds : (p : Place) (t : Test (Operand Term)) → conjunct_of {E = Term} (Holds p t) ≡ holds p t
-view-holds p t = ap (conjunct_of {E = Term}) (sym (rolls-Holds p t))
-    ∙ fold-roll-Conjunct Term (Conjunct Term) (Level Term) conjunct_step level_step _
-
-pub view-points : (p : Place) (x : Operand Term) (v : Vec (FieldId × Operand Term) Global)
-    → conjunct_of {E = Term} (Points p x v) ≡ points p x v.items
-view-points p x v = ap (conjunct_of {E = Term}) (sym (rolls-Points p x v))
-    ∙ fold-roll-Conjunct Term (Conjunct Term) (Level Term) conjunct_step level_step _
-
-pub view-segment : (p : Place) (f : FieldId) (x y : Operand Term)
-    → conjunct_of {E = Term} (Segment p f x y) ≡ segment p f x y
-view-segment p f x y = ap (conjunct_of {E = Term}) (sym (rolls-Segment p f x y))
-    ∙ fold-roll-Conjunct Term (Conjunct Term) (Level Term) conjunct_step level_step _
-
-pub view-doubly : (p : Place) (f g : FieldId) (x b l y : Operand Term)
-    → conjunct_of {E = Term} (Doubly p f g x b l y) ≡ doubly p f g x b l y
-view-doubly p f g x b l y = ap (conjunct_of {E = Term}) (sym (rolls-Doubly p f g x b l y))
-    ∙ fold-roll-Conjunct Term (Conjunct Term) (Level Term) conjunct_step level_step _
-
-pub view-tree : (p : Place) (l r : FieldId) (x : Operand Term)
-    → conjunct_of {E = Term} (Tree p l r x) ≡ tree p l r x
-view-tree p l r x = ap (conjunct_of {E = Term}) (sym (rolls-Tree p l r x))
-    ∙ fold-roll-Conjunct Term (Conjunct Term) (Level Term) conjunct_step level_step _
 
 module _ (heap : Heap) (bindings : List (Option Term)) (p : Place) where
   -- a test holds of no cells

@@ -93,14 +93,14 @@ fn nil_values(alloc: Global, fields: usize) -> Result<Vec<Value>, AllocError>
 
 /// Adds a cell at a symbol, where there is none yet; a constant is no location. An `Err` means out
 /// of memory.
-fn put_cell(alloc: Global, heap: &mut Heap, at: Term, cell: Cell) -> Result<(), AllocError>
+fn put_cell(heap: &mut Heap, at: Term, cell: Cell) -> Result<(), AllocError>
     ensures { OnOk result
         (heap_of heap.new ≡ beside (heap_of heap.old) (one_cell at (cell_of cell))) }
 {
     let Term::Sym(n) = at else {
         return Ok(());
     };
-    match heap.put(u64::from(n) + 1, Box::new(alloc, cell)?) {
+    match heap.put(u64::from(n) + 1, cell) {
         Ok(()) => Ok(()),
         // The cell of an earlier atom stays. In a normal state no two are at one place.
         Err(HeapFault::Present(_)) => Ok(()),
@@ -142,7 +142,7 @@ fn add_last(
                 return Ok(());
             }
             let cell = double_cell(alloc, fields, links, *u, *v)?;
-            put_cell(alloc, heap, *l, cell)
+            put_cell(heap, *l, cell)
         }
     }
 }
@@ -162,7 +162,7 @@ fn add_atom(
         return Ok(());
     }
     let cell = cell_of_atom(alloc, fields, links, atom)?;
-    put_cell(alloc, heap, atom.root(), cell)?;
+    put_cell(heap, atom.root(), cell)?;
     add_last(alloc, heap, fields, links, atom)
 }
 

@@ -8,7 +8,7 @@ use Rattle.sf_heap.specs.declared.tree.Entry.{Entry}
 
 -- the locations with the values of their cells' fields
 abbrev pub cells_of : List Entry → List (ℕ × FieldValues)
-cells_of entries = map (λ e. (e.at, e.cell.value)) entries
+cells_of entries = map (λ e. (e.at, e.cell)) entries
 
 -- the values of the first cell at a location
 abbrev pub found : ℕ → List Entry → Option FieldValues

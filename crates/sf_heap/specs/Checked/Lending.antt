@@ -2,7 +2,6 @@
 -- Ordinary: what a reference points at, after it was lent and given back.
 use Rattle.std.specs.Prelude.{Option, Some, None}
 use Rattle.std.specs.Borrow.{Lends, LendsIf, MutBor, Fml}
-use Rattle.std.specs.Box.{with_value}
 use Rattle.sf_heap.specs.Cells.{FieldValues}
 use Rattle.sf_heap.specs.declared.tree.Entry.{Entry}
 use Rattle.sf_heap.specs.declared.tree.Tree.{Tree}
@@ -13,12 +12,12 @@ use Rattle.sf_heap.specs.contracts.tree.Tree as tree
 
 -- the entry with another cell
 abbrev pub other_cell : Entry → FieldValues → Entry
-other_cell e w = record e { cell = with_value e.cell w }
+other_cell e w = record e { cell = w }
 
 -- the cell on top of a tree
 abbrev pub top_of : Tree → Option FieldValues
 top_of Empty = None
-top_of (Fork' p e height below above) = Some e.cell.value
+top_of (Fork' p e height below above) = Some e.cell
 
 -- the tree with another cell on top
 abbrev pub top_set : Tree → FieldValues → Tree

@@ -8,19 +8,19 @@ use Rattle.sf_frame.proofs.cells.make_cell.Goals as goal
 pub returns-clause-ok : goal.returns-clause-ok
 returns-clause-ok c = elim c.match-put.branch [
   | in-Ok w ↦
-      let same = c.in_ok-cell.ensures.ok ∙ c.from_values.ensures ∙ c.in_ok-values.ensures.items ∙ c.values.ensures in
+      let same = c.from_values.ensures ∙ c.in_ok-values.ensures.items ∙ c.values.ensures in
       rw w.result-is (λ l. ap (λ (z : Cells). heap_of z l) w.in-Ok.ensures.ok
-      ∙ insert_at c.args.heap.now c.args.at c.in_ok-cell.cell.value (Some (cell_of c.args.fields.now))
+      ∙ insert_at c.args.heap.now c.args.at c.from_values.result (Some (cell_of c.args.fields.now))
       (ap (λ (ks : FieldValues). Some (cell_of ks)) (sym same)) l)
   | in-Err w ↦ rw w.result-is tt
 ]
 
 pub returns-clause-width : goal.returns-clause-width
 returns-clause-width c = λ count e w.
-    let same = c.in_ok-cell.ensures.ok ∙ c.from_values.ensures ∙ c.in_ok-values.ensures.items ∙ c.values.ensures in
+    let same = c.from_values.ensures ∙ c.in_ok-values.ensures.items ∙ c.values.ensures in
     elim c.match-put.branch [
       | in-Ok k ↦ subst (HasWidth count) (sym k.in-Ok.ensures.ok)
-          (width_insert c.args.heap.now c.args.at c.in_ok-cell.cell.value count
+          (width_insert c.args.heap.now c.args.at c.from_values.result count
           (ap (λ (xs : FieldValues). length xs) same ∙ e) w)
       | in-Err k ↦ subst (HasWidth count) (sym k.in-Err.ensures.err) w
     ]

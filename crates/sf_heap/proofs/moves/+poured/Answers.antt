@@ -7,8 +7,8 @@ use Rattle.sf_heap.proofs.Merges.{poured-absent, poured-all, poured-left, poured
 use Rattle.sf_heap.proofs.moves.+poured.Goals as goal
 
 -- first the cells below
-pub poured-requires : goal.poured-requires
-poured-requires t c =
+pub poured-into-requires : goal.poured-into-requires
+poured-into-requires t c =
     let is = ap entries_of c.in-Fork.is ∙ c.opened-below.ensures.entries in
     let rises = subst Rises is c.requires.from_rises in
     let apart = subst (AreApart (entries_of c.args.into)) is c.requires.apart in
@@ -17,16 +17,16 @@ poured-requires t c =
     (search rules, (Rises-left _ _ _ rises, (c.requires.into_rises, poured-left _ _ _ _ rises apart)))
 
 -- then the node's own
-pub with-requires-clause-absent : goal.with-requires-clause-absent
-with-requires-clause-absent t c =
+pub put_in-requires-clause-absent : goal.put_in-requires-clause-absent
+put_in-requires-clause-absent t c =
     let is = ap entries_of c.in-Fork.is ∙ c.opened-below.ensures.entries in
     let rises = subst Rises is c.requires.from_rises in
     let apart = subst (AreApart (entries_of c.args.into)) is c.requires.apart in
-    poured-absent _ _ _ _ rises apart _ c.poured.ensures
+    poured-absent _ _ _ _ rises apart _ c.poured-into.ensures
 
 -- then those above
-pub poured-requires-2 : goal.poured-requires-2
-poured-requires-2 t c =
+pub poured-requires : goal.poured-requires
+poured-requires t c =
     let is = ap entries_of c.in-Fork.is ∙ c.opened-below.ensures.entries in
     let rises = subst Rises is c.requires.from_rises in
     let apart = subst (AreApart (entries_of c.args.into)) is c.requires.apart in
@@ -36,8 +36,8 @@ poured-requires-2 t c =
       (
         Rises-right _ _ _ rises,
         (
-          Rises-put _ _ _ c.with.ensures c.poured.ensures.rises,
-          poured-right _ _ _ _ rises apart _ c.poured.ensures _ c.with.ensures,
+          Rises-put _ _ _ c.put_in.ensures c.poured-into.ensures.rises,
+          poured-right _ _ _ _ rises apart _ c.poured-into.ensures _ c.put_in.ensures,
         ),
       ),
     )
@@ -47,4 +47,4 @@ returns t c =
     let is = ap entries_of c.in-Fork.is ∙ c.opened-below.ensures.entries in
     let rises = subst Rises is c.requires.from_rises in
     let apart = subst (AreApart (entries_of c.args.into)) is c.requires.apart in
-    rw is (poured-all _ _ _ _ rises apart _ c.poured.ensures _ c.with.ensures _ c.poured-2.ensures)
+    rw is (poured-all _ _ _ _ rises apart _ c.poured-into.ensures _ c.put_in.ensures _ c.poured.ensures)

@@ -14,7 +14,7 @@ loop-location-preserved c =
     placing-more c.args.cells c.loop-location.cells c.pop_first.new.self c.loop-location.heap c.put_new.new.heap
     c.loop-location.at.items c.push.new.self.items c.in-Some.location c.in-Some.cell c.loop-location.invariant
     c.in-Some.ensures.value c.in-Some.ensures.updates.0
-    (c.in_ok-put_new.ensures.ok ∙ ap (fin.insert c.loop-location.heap c.in-Some.location) c.in_ok-new.ensures.ok) c.in_ok-push.ensures.items
+    c.in_ok-put_new.ensures.ok c.in_ok-push.ensures.items
 
 pub returns-clause-cells : goal.returns-clause-cells
 returns-clause-cells c =

@@ -3,5 +3,5 @@ use Rattle.sf_witness.proofs.cells.put_cell.Goals as goal
 
 pub returns-in-Ok : goal.returns-in-Ok
 returns-in-Ok c =
-    put-ok c.args.heap.now c.put.new.self c.in-Sym.n c.from.result c.args.at c.args.cell c.in_ok-new.field-0.value
-    c.in-Ok.ensures.ok c.from.ensures c.in_ok-new.ensures.ok c.in-Sym.is c.in-Ok.ensures.present.1
+    put-ok c.args.heap.now c.put.new.self c.in-Sym.n c.from.result c.args.at c.args.cell c.in-Ok.ensures.ok
+    c.from.ensures c.in-Sym.is c.in-Ok.ensures.present.1

@@ -7,7 +7,8 @@ use Rattle.sf_heap.specs.Cells.{heap_of}
 use Rattle.sf_sym.specs.declared.term.Term.{Term}
 use Rattle.sf_witness.specs.Checked.Meeting.{HasCellAs}
 use Rattle.sf_witness.specs.Checked.Wishes.{HasDoubleOf}
-use Rattle.sf_witness.proofs.Views.{double-in, holds-in, plain-by, points-in, segment-in, through, tree-in, view-doubly, view-holds, view-points, view-segment, view-tree}
+use Rattle.sf_foot.specs.Checked.Lemmas.Views.{view-doubly, view-holds, view-points, view-segment, view-tree}
+use Rattle.sf_witness.proofs.Views.{double-in, holds-in, plain-by, points-in, segment-in, through, tree-in}
 use Rattle.sf_witness.proofs.wanted.is_satisfied.Goals as goal
 
 pub returns-in-Holds : goal.returns-in-Holds

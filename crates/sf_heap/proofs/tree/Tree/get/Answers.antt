@@ -11,7 +11,7 @@ returns-then-at-deref c =
     let n = c.in-Fork.node.value in
     let is = ap entries_of c.in-Fork.is in
     let same : c.args.at ≡ n.entry.at = c.if-at-deref.true ∙ ap (λ (m : Node). m.entry.at) c.deref.ensures in
-    ap Some (c.as_ref.ensures ∙ ap (λ (m : Node). m.entry.cell.value) c.deref-then-at-deref.ensures)
+    ap Some (ap (λ (m : Node). m.entry.cell) c.deref-then-at-deref.ensures)
     ∙ sym (found-here (entries_of n.below) n.entry (entries_of n.above) (subst Rises is c.loop-tree.invariant.rises) c.args.at same)
     ∙ sym (ap (found c.args.at) is) ∙ c.loop-tree.invariant.here
 

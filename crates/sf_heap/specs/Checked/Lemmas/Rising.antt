@@ -1,5 +1,5 @@
--- Locations that rise: the keys of a finite map do, and two rising lists of the same locations are
--- one.
+-- Locations that rise: the keys of a finite map do, and two rising lists of the same locations are one.
+-- Ordinary: a set of numbers has one list in strictly increasing order.
 -- Names: `rising-LAW`, `keys-at`.
 use Rattle.std.proofs.Common.{◌≡◌, ◌↔◌, ◌<◌, ◌&&◌, ℕ, Bool, true, false, List, [], ◌∷◌, Contains, map, refl, sym, ap, ◌∙◌, arith, inl, inr}
 use Rattle.std.specs.Prelude.{T, nat_eq}
