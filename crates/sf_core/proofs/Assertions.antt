@@ -8,4 +8,5 @@ pub mod Trees
 pub mod Finite
 pub mod Laws
 pub mod Examples
+pub mod DoubleExamples
 pub mod Scopes

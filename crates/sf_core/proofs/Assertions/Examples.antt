@@ -26,10 +26,10 @@ use Rattle.sf_core.specs.Assertions.Scopes.{is_made_by}
 use Rattle.sf_core.specs.Assertions.Sat.{SameOutside, SatAll, Seg, end, cell, leaf, node, value, SatOne}
 use Rattle.sf_core.specs.Program.Syntax.{Conjunct, Conjuncts, Level, none, also, choose, points, segment, tree, level}
 
-loc-not_nil : (location : ℕ) → loc location ≢ nil
+pub loc-not_nil : (location : ℕ) → loc location ≢ nil
 loc-not_nil a e = nil-not_loc a (sym e)
 
-second-alone : (u v : Cell) (a b : Bool) → b ≡ false
+pub second-alone : (u v : Cell) (a b : Bool) → b ≡ false
     → cond a None (cond a (Some u) (cond b (Some v) None)) ≡ None
 second-alone u v true b e = refl
 second-alone u v false b e = ap (λ t. cond t (Some v) None) e
@@ -84,7 +84,7 @@ choice_goes_by_its_test v w heap = (
   ),
 )
 
-field-outside : (w : Value) → SameOutside one_scope (λ n. nil) (λ n. cond (n == 0) w nil)
+pub field-outside : (w : Value) → SameOutside one_scope (λ n. nil) (λ n. cond (n == 0) w nil)
 field-outside w n o = ap (λ t. cond t w nil)
     (at-other 0 n (λ (e : n ≡ 0). true≢false (ap (is_made_by one_scope) (sym e) ∙ o)))
 

@@ -1,5 +1,6 @@
 -- What is checked of the definitions in Assertions: laws, worked examples, and definitions that only proofs use.
 -- One module for each.
+pub mod DoubleExamples
 pub mod Examples
 pub mod InOrderIsProp
 pub mod Laws

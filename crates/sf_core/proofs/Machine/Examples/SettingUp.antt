@@ -5,7 +5,7 @@ use Rattle.std.specs.List.{slice_get}
 use Rattle.std.proofs.Common.{sym, ap, ap₂, ◌∙◌, refl, subst, inl, inr, arith}
 use Rattle.std.proofs.lemmas.Bool.{and_parts}
 use Rattle.std.proofs.lemmas.Option.{none-some, same_Some}
-use Rattle.sf_base.proofs.HeapSplits.{at-same, one-single, single, star-drop_left, star-drop_right, star-map_left}
+use Rattle.sf_base.proofs.HeapSplits.{at-same, one-single, star-drop_left, star-drop_right, star-map_left}
 use Rattle.sf_base.proofs.Lookup.{get-single}
 use Rattle.sf_base.proofs.MapSplits.{empty-holds}
 use Rattle.sf_base.proofs.Options.{cond-some, some-none}
@@ -14,19 +14,19 @@ use Rattle.sf_base.specs.declared.ids.Var.{Var}
 use Rattle.sf_base.specs.declared.ids.Var.TheVariants.{Shared}
 use Rattle.sf_base.specs.declared.value.Value.{Value}
 use Rattle.sf_base.specs.declared.value.Value.TheVariants.{Nil as nil, Loc as loc}
-use Rattle.sf_base.specs.HeapStore.{Apart, Slot, Store, shared, own, ◌⋆◌}
+use Rattle.sf_base.specs.HeapStore.{Slot, shared, own}
 use Rattle.sf_core.specs.Assertions.Occurs.{VarOccursIn}
-use Rattle.sf_core.specs.Assertions.Sat.{Foot, Sat}
+use Rattle.sf_core.specs.Assertions.Sat.{Foot}
 use Rattle.sf_core.specs.Checked.Machine.Examples.{emp, guarding, lock, one_cell_at, shared_in, shared_one, skip, event}
 use Rattle.sf_core.specs.Checked.Machine.SettingUp.{FreshSkipRuns, FreshSkipStarts, SetVariablesDoNotStartFresh, UnmetInvariantsAreNotGood, first, fresh_start, init_with, makes_at, makes_its_cell, makes_nothing, no_cells, second, set_up_by}
 use Rattle.sf_core.specs.Machine.Config.{items, adds, Frame, runs, Path, Common, Config, evaluate, task_at}
-use Rattle.sf_core.specs.Machine.Good.{HasOwed, Owner, Returns, Good, owed}
+use Rattle.sf_core.specs.Machine.Good.{HasOwed, Returns, Good, owed}
 use Rattle.sf_core.specs.Machine.HasThroughout.{ContractMentions}
-use Rattle.sf_core.specs.Machine.Start.{Beginning, settled, fresh, BeginsWith, Invariants, IsKept, first_holders, entry_frame, entry_slot, init_frame, init_slot}
+use Rattle.sf_core.specs.Machine.Start.{Beginning, settled, fresh, BeginsWith, IsKept, first_holders, entry_frame, entry_slot, init_frame, init_slot}
 use Rattle.sf_core.specs.Machine.Step.{procedure_at, returned, set_cell, set_slot}
-use Rattle.sf_core.specs.Program.Syntax.{Block, Procedure, Program, Resource}
+use Rattle.sf_core.specs.Program.Syntax.{Procedure, Program, Resource}
 use Rattle.sf_core.proofs.Inits.{has_throughout-mentions}
-use Rattle.sf_core.proofs.Machine.Examples.Good.{alone-not_bad, foot-one, returning-not_bad, skip_ended-good}
+use Rattle.sf_core.proofs.Machine.Examples.Good.{alone-not_bad, returning-not_bad, skip_ended-good}
 use Rattle.sf_core.proofs.Machine.Examples.Runs.{all-nothing, entry_part, entry_part-apart, one-sat, sat-one, to}
 use Rattle.sf_core.proofs.Machine.Tasks.{task_at-running}
 

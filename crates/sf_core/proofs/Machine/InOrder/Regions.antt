@@ -10,7 +10,7 @@ use Rattle.sf_base.proofs.Options.{some-none}
 use Rattle.sf_base.specs.declared.ids.ResId.{ResId}
 use Rattle.sf_core.specs.Machine.Config.{Item, command, leave, Fixed, Frame, Task, runs, waits, Path, Common, task_at, put_task}
 use Rattle.sf_core.specs.Checked.Machine.InOrder.{EachStack, ItemWithin, FrameIsFormed, stack_of, exits, throughout, regions}
-use Rattle.sf_core.specs.Machine.Step.{procedure_at, set_holder}
+use Rattle.sf_core.specs.Machine.Step.{set_holder}
 use Rattle.sf_core.specs.Program.Init.{sets_up}
 use Rattle.sf_core.specs.Program.Syntax.{Procedure, Program}
 use Rattle.sf_core.proofs.Machine.Decided.{resource-or_not}

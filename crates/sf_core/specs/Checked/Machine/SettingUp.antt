@@ -4,12 +4,11 @@
 use Rattle.std.specs.Prelude.{◌≡◌, ◌≢◌, ℕ, [], ◌∷◌, codes, Some, None}
 use Rattle.sf_base.specs.declared.ids.ProcId.{ProcId}
 use Rattle.sf_base.specs.declared.value.Value.TheVariants.{Nil as nil, Loc as loc}
-use Rattle.sf_base.specs.HeapStore.{Heap, IsEmpty, IsOne, Store, shared}
+use Rattle.sf_base.specs.HeapStore.{Heap, IsOne, shared}
 use Rattle.sf_core.specs.Checked.Machine.Examples.{at_shared, emp, event, guarding, here, lock, shared_in, skip}
 use Rattle.sf_core.specs.Machine.Config.{Config}
 use Rattle.sf_core.specs.Machine.Enabled.{HasEnded}
 use Rattle.sf_core.specs.Machine.Good.{Good}
-use Rattle.sf_core.specs.Machine.Reach.{Reach}
 use Rattle.sf_core.specs.Machine.Start.{Start, fresh, initial_config}
 use Rattle.sf_core.specs.Machine.Step.{Event, Step}
 use Rattle.sf_core.specs.Program.Syntax.{new, Block, done, then, Procedure, Program}

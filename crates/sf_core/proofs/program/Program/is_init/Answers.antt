@@ -1,5 +1,4 @@
-use Rattle.std.proofs.Common.{◌≡◌, map, Some, None, Option, sym, subst}
-use Rattle.sf_base.specs.declared.ids.ProcId.{ProcId}
+use Rattle.std.proofs.Common.{map, subst}
 use Rattle.sf_core.specs.Program.Init.{IsInitAmong}
 use Rattle.sf_core.proofs.Inits.{code-init, code-no_init}
 use Rattle.sf_core.proofs.program.Program.is_init.Goals as goal
