@@ -7,5 +7,6 @@ pub mod Ending
 pub mod Events
 pub mod Paths
 pub mod Reached
+pub mod Seen
 pub mod Tasks
 pub mod Checked

@@ -11,13 +11,15 @@
 //! - `plan`: what an event would make of a configuration, or why it is none.
 //! - `performing`: what an event makes of a configuration.
 //! - `finishing`: whether a run has ended, and what it ends with.
+//! - `seeing`: what a task does next, with its variables, and the cells.
 //! - `stepping`: the step. `laws`: that each answer of it comes exactly where its cause is, and which
 //!   configurations are reached.
 //!
 //! `specs/` says which configuration of the definitions a `Config` is (Configs), with which one a
 //! procedure starts (Beginning), which ones a running program has (Reached), what is said of a
 //! step's reads and writes (Accessing), which tasks there are (Paths), where a step finds no cell
-//! (Absent), what a step answers (Answers), and what a run ends with (Ending).
+//! (Absent), what a step answers (Answers), what is seen of a task (Seen), and what a run ends with
+//! (Ending).
 #![tactic(auto)]
 
 mod accessed;
@@ -33,6 +35,7 @@ mod missing;
 mod noting;
 mod performing;
 mod plan;
+mod seeing;
 mod stepping;
 mod task;
 
