@@ -10,7 +10,7 @@ use Rattle.sf_base.proofs.HeapSplits.{star-drop_right, star-empty_right, star-ma
 use Rattle.sf_base.specs.declared.ids.Var.{Var}
 use Rattle.sf_base.specs.declared.place.Place.{Place}
 use Rattle.sf_base.specs.declared.value.Value.{Value}
-use Rattle.sf_base.specs.HeapStore.{Heap, IsEmpty}
+use Rattle.sf_base.specs.HeapStore.{Heap}
 use Rattle.sf_consume.specs.Checked.Laws.{BranchKeepsWants, Subtracts, SubtractionKeepsWants}
 use Rattle.sf_consume.specs.Subtract.{Want, new_symbols, removed, subtracted}
 use Rattle.sf_consume.specs.Wants.{IsFormed, still_wanted, wanting}
@@ -22,14 +22,15 @@ use Rattle.sf_core.specs.Program.Syntax.{holds, points, segment, doubly, tree, c
 use Rattle.sf_produce.specs.Add.{add_row, operands}
 use Rattle.sf_produce.specs.Checked.Laws.{AddKeepsGoals, HoldsAssumed, assuming}
 use Rattle.sf_rules.specs.Checked.Lemmas.{few-left}
+use Rattle.sf_rules.specs.Checked.Lemmas.Forms.{showing-empty, taking-showing}
 use Rattle.sf_rules.specs.Checked.LawsOfConjuncts.{AssumeKeepsGoals, AssumedBranchKeepsGoals, HandsOn, LeftToShow, ShownBranchLeavesRest, SubtractionLeavesRest, showing, still_showing}
 use Rattle.sf_rules.specs.Checked.Rows.Branches.{chosen}
 use Rattle.sf_sym.specs.Below.{AllInPending, AreBelow, IsBelow}
 use Rattle.sf_sym.specs.Decided.{is_decided, test_of_terms}
 use Rattle.sf_sym.specs.declared.term.Term.{Term}
 use Rattle.sf_sym.specs.Formed.{AreFormed, ItemFormed}
-use Rattle.sf_sym.specs.Goal.{Item, run, add, take, gave, head, again, exit, return, end, Goal, adding, one_goal, taking, unless_none}
-use Rattle.sf_sym.specs.Holds.{term_value, AddsHold, IsBound, PendingHolds}
+use Rattle.sf_sym.specs.Goal.{Item, add, Goal, adding, one_goal, taking}
+use Rattle.sf_sym.specs.Holds.{term_value, IsBound, PendingHolds}
 use Rattle.sf_sym.specs.HoldsIn.{HoldsIn}
 use Rattle.sf_sym.specs.Checked.Laws.{Follows, KeptWith}
 use Rattle.sf_sym.specs.Checked.Lemmas.Adding.{adding-all, adding-holds, taking-all}
@@ -180,29 +181,6 @@ assumed_branch_keeps_goals so s p given rest left shape row = go given.conjuncts
             decide false d e = absurd (cc)
 
 -- What is to be shown
--- nothing is assumed at once where something is shown first
-showing-empty : (w : ℕ → Value) (todo : List Item) (heap : Heap) → IsShowing todo → IsEmpty heap
-    → AddsHold w todo heap
-showing-empty w [] heap i e = absurd i
-showing-empty w (take q want names ∷ rest) heap i e = e
-showing-empty w (gave q set removed ∷ rest) heap i e = e
-showing-empty w (head q test invariant body ∷ rest) heap i e = e
-showing-empty w (end q ∷ rest) heap i e = e
-showing-empty w (run c ∷ rest) heap i e = absurd i
-showing-empty w (add q given ∷ rest) heap i e = absurd i
-showing-empty w (exit q r ∷ rest) heap i e = absurd i
-showing-empty w (again q invariant ∷ rest) heap i e = absurd i
-showing-empty w (return q post ∷ rest) heap i e = absurd i
-
--- what is to be shown may come before it
-taking-showing : (q : Place) (want : Pending) (names : List (List ℕ)) (rest : List Item) → IsShowing rest
-    → IsShowing (taking q want names ++ rest)
-taking-showing q want names rest i = go want.conjuncts
-  where
-    go : (cs : Conjuncts Term) → IsShowing (unless_none cs (take q want names) ++ rest)
-    go none = i
-    go (also c cs) = i
-
 module _ (s : State) (p : Place) (want : Pending) (names : List (List ℕ)) (rest : List Item)
     (shape : HasShape (showing s p want names rest)) where
   -- a subtraction that is formed

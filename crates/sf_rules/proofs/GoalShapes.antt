@@ -18,7 +18,8 @@ use Rattle.sf_rules.proofs.Fits.{IsFitting, items-fit, todo-fits}
 use Rattle.sf_rules.proofs.FormedAnnotations.{annotation-fits}
 use Rattle.sf_rules.proofs.FormedBodies.{ForksApart, block-fits}
 use Rattle.sf_rules.proofs.BodyVariables.{first-variables}
-use Rattle.sf_rules.proofs.KeptShapes.{AllOrderly, IsOrderly, RowLaws, first-orderly, rows-orderly}
+use Rattle.sf_rules.proofs.KeptShapes.{AllOrderly, IsOrderly, first-orderly, rows-orderly}
+use Rattle.sf_rules.specs.Checked.LawsOfRows.{RowLaws}
 use Rattle.sf_rules.proofs.KeptVariables.{AllHave, next-reads, rows-have}
 use Rattle.sf_rules.proofs.ShapedGoals.{AllKeep}
 use Rattle.sf_rules.proofs.ShapedRows.{ProgramFits, cases-keep}

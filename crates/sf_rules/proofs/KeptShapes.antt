@@ -23,6 +23,7 @@ use Rattle.sf_normal.specs.Checked.Laws.{AbsurdKeepsGoals, BackKeepsGoals, DropK
 use Rattle.sf_produce.specs.Add.{operands}
 use Rattle.sf_rules.proofs.ShapedRows.{ProgramFits}
 use Rattle.sf_rules.specs.Checked.LawsOfCommands.{AssignFollowsEvent, DisposeFollowsEvent, ElseFollowsTest, LookFollowsEvent, MutateFollowsEvent, NewFollowsEvent, ThenFollowsTest, before_command}
+use Rattle.sf_rules.specs.Checked.LawsOfRows.{RowLaws}
 use Rattle.sf_rules.specs.Checked.LawsOfConjuncts.{AssumeKeepsGoals, AssumedBranchKeepsGoals, LeftToShow, ShownBranchLeavesRest, SubtractionLeavesRest, showing}
 use Rattle.sf_rules.specs.Checked.Lemmas.{few-left}
 use Rattle.sf_rules.specs.Checked.Lemmas.CommandChildren.{IsOrdered, Stays, assign-stays, branch-stays, dispose-stays, look-stays, mutate-stays, new-stays}
@@ -31,7 +32,7 @@ use Rattle.sf_rules.specs.Checked.Lemmas.Forms.{adding-assuming, body-assuming, 
 use Rattle.sf_rules.specs.Checked.Lemmas.StateChildren.{AllStay, absurd-stays, add-stays, back-stays, choice-stays, drop-stays, force-stays, split-stays, unroll-stays}
 use Rattle.sf_rules.specs.Checked.Lemmas.Subtracting.{Lists, chosen-lists, subtract-lists}
 use Rattle.sf_sym.specs.Checked.Lemmas.Updates.{remove_vars-order, set_vars-order}
-use Rattle.sf_rules.specs.Checked.RowCases.{Rows, RowsHaveCases, by_absurd, by_add, by_again, by_around, by_assign, by_back, by_call, by_choice, by_choice_assumed, by_choice_shown, by_dispose, by_drop, by_end, by_enter, by_exit, by_force, by_fork, by_give, by_look, by_loop, by_mutate, by_new, by_return, by_split, by_step, by_unroll, goal_of}
+use Rattle.sf_rules.specs.Checked.RowCases.{Rows, by_absurd, by_add, by_again, by_around, by_assign, by_back, by_call, by_choice, by_choice_assumed, by_choice_shown, by_dispose, by_drop, by_end, by_enter, by_exit, by_force, by_fork, by_give, by_look, by_loop, by_mutate, by_new, by_return, by_split, by_step, by_unroll, goal_of}
 use Rattle.sf_rules.specs.First.{first_goal, links_of, nils, own_vars, symbols, nil_for, with_held, with_nil}
 use Rattle.sf_rules.specs.Resources.{variables_of, variables_from}
 use Rattle.sf_rules.specs.Checked.Rows.Branches.{branch_row}
@@ -51,27 +52,6 @@ use Rattle.sf_sym.specs.Ready.{HasOrder}
 use Rattle.sf_sym.specs.Shape.{HasForm, IsAssuming, IsBody, IsShowing}
 use Rattle.sf_sym.specs.State.{State, term, with_symbols, first_state}
 use Rattle.sf_sym.specs.Variables.{AreInOrder, fresh_for, remove_vars, set_vars, with_fresh}
-
--- the laws of rows on which this rests
-pub record RowLaws : Type 0 where
-  pub cases : RowsHaveCases
-  pub absurd_law : AbsurdKeepsGoals
-  pub drop_law : DropKeepsGoals
-  pub force_law : ForceKeepsGoals
-  pub split_law : SplitKeepsGoals
-  pub unroll_law : UnrollKeepsGoals
-  pub back_law : BackKeepsGoals
-  pub assign_law : AssignFollowsEvent
-  pub look_law : LookFollowsEvent
-  pub mutate_law : MutateFollowsEvent
-  pub new_law : NewFollowsEvent
-  pub dispose_law : DisposeFollowsEvent
-  pub then_law : ThenFollowsTest
-  pub else_law : ElseFollowsTest
-  pub assume_law : AssumeKeepsGoals
-  pub assumed_branch_law : AssumedBranchKeepsGoals
-  pub subtraction_law : SubtractionLeavesRest
-  pub shown_branch_law : ShownBranchLeavesRest
 
 -- what the shape of a goal asks beside the symbols that it speaks of and what fits
 pub record IsOrderly (goal : Goal) : Type 0 where

@@ -17,7 +17,7 @@ use Rattle.sf_core.specs.declared.command.Expr.{Expr}
 use Rattle.sf_core.specs.Program.Syntax.{Command, assign, look_up, mutate, new, dispose, if, while, call, fork, with, Program, Resource}
 use Rattle.sf_core.specs.declared.command.Expr.TheVariants.{Var as Variable, Nil as ENil, Int as EInt}
 use Rattle.sf_produce.specs.Add.{operands}
-use Rattle.sf_rules.proofs.KeptShapes.{RowLaws}
+use Rattle.sf_rules.specs.Checked.LawsOfRows.{RowLaws}
 use Rattle.sf_rules.specs.Checked.LawsOfCommands.{before_command}
 use Rattle.sf_rules.specs.Checked.LawsOfConjuncts.{LeftToShow, ShownBranchLeavesRest, SubtractionLeavesRest, showing}
 use Rattle.sf_rules.specs.Checked.Lemmas.{few-left}

@@ -10,6 +10,7 @@ pub mod Few
 pub mod Front
 pub mod LawsOfCommands
 pub mod LawsOfConjuncts
+pub mod LawsOfRows
 pub mod LawsOfRules
 pub mod LawsOfSettings
 pub mod LawsOfShape

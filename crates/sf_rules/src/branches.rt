@@ -18,6 +18,7 @@ use std::alloc::AllocError;
 
 /// then where `so`, else: a choice goes where its test is decided so, and its branch for that takes
 /// its place. `None` exactly where there is no row; an `Err` means out of memory.
+#[inline(never)]
 pub(crate) fn branch<'a>(so: bool, goal: Goal<'a>) -> Result<Option<Children<'a>>, AllocError>
     ensures { IfOk result (λ left. option_map children_of left
         ≡ branch_row so goal.entry.state (todo_of goal.entry.todo.items)) }

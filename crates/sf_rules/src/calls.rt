@@ -59,6 +59,7 @@ fn contract_of<'a>(arranged: &'a Arranged, f: ProcId) -> Option<Contract<'a>>
 
 /// call: the precondition is due, then what the call may change is unknown, and the postcondition
 /// is assumed.
+#[inline(never)]
 pub(crate) fn call<'a>(
     alloc: Global,
     arranged: &'a Arranged,
@@ -119,6 +120,7 @@ fn call_one<'a>(
 
 /// fork: both preconditions are due, then what the calls may change is unknown, and both
 /// postconditions are assumed.
+#[inline(never)]
 pub(crate) fn fork<'a>(
     alloc: Global,
     arranged: &'a Arranged,
@@ -352,6 +354,7 @@ fn values_of(alloc: Global, vars: &[(Var, Term)], values: &[Expr]) -> Result<Vec
 }
 
 /// give: what was taken is gone for good, and variables are set and removed.
+#[inline(never)]
 pub(crate) fn give<'a>(mut goal: Goal<'a>) -> Result<Option<Children<'a>>, AllocError>
     ensures { IfOk result (λ left. option_map children_of left
         ≡ at_gave (give_row goal.entry.state) (todo_of goal.entry.todo.items)) }

@@ -1,6 +1,6 @@
 //! What a tag leaves of a goal: the whole table.
 
-ghost use Rattle.std.specs.Prelude.{◌≡◌, ◌++◌, ◌∷◌, [], IfErr, IfOk, IsTrue, None, OnOk, Some, cond};
+ghost use Rattle.std.specs.Prelude.{◌≡◌, ◌++◌, IfErr, IfOk, IsTrue, None, OnOk, Some};
 ghost use Rattle.std.specs.Option.{option_map};
 ghost use Rattle.sf_precise.specs.Order.{IsOrdering};
 ghost use Rattle.sf_rules.specs.Checked.Children.{children_of, stack_of};
@@ -14,10 +14,10 @@ use crate::branches::branch;
 use crate::calls::{call, fork, give};
 use crate::commands::{assign, dispose, look, mutate, new};
 use crate::few::TOO_MANY;
+use crate::knowledge::{absurd_row, back_row, drop_row, force_row, split_row, unroll_row};
 use crate::loops::{again, around, begin_loop, end, return_from};
 use crate::regions::{enter, exit};
 use crate::subtracting::{assume, show};
-use sf_normal::{absurd, drop, force, split, unroll, unroll_back};
 use sf_precise::Arranged;
 use sf_sym::{Goal, State, Tag};
 use std::alloc::{AllocError, Global};
@@ -90,9 +90,11 @@ fn children_by_row<'a>(
     if !has_numbers(&goal.state) {
         return Err(RuleFault::NotARule);
     }
-    match row_of(alloc, arranged, goal, tag)? {
-        Some(left) => Ok(left),
-        None => Err(RuleFault::NotARule),
+    // One `match` rather than a `?`: a frame has zeros written for each value between.
+    match row_of(alloc, arranged, goal, tag) {
+        Ok(Some(left)) => Ok(left),
+        Ok(None) => Err(RuleFault::NotARule),
+        Err(AllocError) => Err(RuleFault::OutOfMemory),
     }
 }
 
@@ -122,6 +124,8 @@ fn has_numbers(state: &State) -> bool
 }
 
 /// What the tag's row leaves, where numbers can't run out. `None` exactly where there is no row.
+/// Each case is a call alone, of a function that isn't inlined: a frame has room for what any case
+/// needs, and zeros are written to it at each goal.
 fn row_of<'a>(
     alloc: Global,
     arranged: &'a Arranged,
@@ -137,12 +141,12 @@ fn row_of<'a>(
 {
     match tag {
         Tag::Procedure(_) => Ok(None),
-        Tag::Absurd => Ok(closed(absurd(goal))),
-        Tag::Drop(a) => Ok(one(drop(goal, a))),
-        Tag::Force(a) => Ok(one(force(goal, a)?)),
-        Tag::Split(t, u) => Ok(two(split(alloc, goal, t, u)?)),
-        Tag::Unroll(a) => Ok(one(unroll(alloc, goal, a)?)),
-        Tag::Back(a) => Ok(one(unroll_back(alloc, goal, a)?)),
+        Tag::Absurd => absurd_row(goal),
+        Tag::Drop(a) => drop_row(goal, a),
+        Tag::Force(a) => force_row(goal, a),
+        Tag::Split(t, u) => split_row(alloc, goal, t, u),
+        Tag::Unroll(a) => unroll_row(alloc, goal, a),
+        Tag::Back(a) => back_row(alloc, goal, a),
         Tag::Assign => assign(goal),
         Tag::Look(a) => look(goal, a),
         Tag::Mutate(a) => mutate(goal, a),
@@ -164,33 +168,5 @@ fn row_of<'a>(
         Tag::Bind | Tag::Same | Tag::Apart | Tag::Cell(_) => show(alloc, goal, tag),
         Tag::Empty | Tag::Exact(_) | Tag::Head(_) => show(alloc, goal, tag),
         Tag::Join(_) | Tag::Node(_) => show(alloc, goal, tag),
-    }
-}
-
-/// No goal, where the goal is proved.
-fn closed<'a>(proved: bool) -> Option<Children<'a>>
-    ensures { option_map children_of result ≡ cond proved (Some []) None }
-{
-    if proved { Some(Children::None) } else { None }
-}
-
-/// One goal, if one is left.
-fn one<'a>(left: Option<Goal<'a>>) -> Option<Children<'a>>
-    ensures { option_map children_of result ≡ option_map (λ g. goal_of g ∷ []) left.entry }
-{
-    match left {
-        Some(goal) => Some(Children::One(goal)),
-        None => None,
-    }
-}
-
-/// Two goals, if they are left.
-fn two<'a>(left: Option<(Goal<'a>, Goal<'a>)>) -> Option<Children<'a>>
-    ensures { option_map children_of result
-        ≡ option_map (λ both. goal_of both.0 ∷ goal_of both.1 ∷ []) left.entry }
-{
-    match left {
-        Some((first, second)) => Some(Children::Two(first, second)),
-        None => None,
     }
 }

@@ -19,6 +19,7 @@ use sf_sym::{FieldTerms, Goal, Term, field_term};
 use std::alloc::{AllocError, Global};
 
 /// assign: the variable has the expression's term.
+#[inline(never)]
 pub(crate) fn assign<'a>(mut goal: Goal<'a>) -> Result<Option<Children<'a>>, AllocError>
     ensures { IfOk result (λ left. option_map children_of left
         ≡ at_command (assign_row goal.entry.state) (todo_of goal.entry.todo.items)) }
@@ -35,6 +36,7 @@ pub(crate) fn assign<'a>(mut goal: Goal<'a>) -> Result<Option<Children<'a>>, All
 }
 
 /// look: the variable has the term of the cell's field.
+#[inline(never)]
 pub(crate) fn look<'a>(mut goal: Goal<'a>, a: u32) -> Result<Option<Children<'a>>, AllocError>
     requires { IsTrue (has_numbers goal.state) }
     ensures { IfOk result (λ left. option_map children_of left
@@ -81,6 +83,7 @@ fn look_up<'a>(
 }
 
 /// mutate: the cell's field has the expression's term.
+#[inline(never)]
 pub(crate) fn mutate<'a>(mut goal: Goal<'a>, a: u32) -> Result<Option<Children<'a>>, AllocError>
     ensures { IfOk result (λ left. option_map children_of left
         ≡ at_command (mutate_row a goal.entry.state) (todo_of goal.entry.todo.items)) }
@@ -101,6 +104,7 @@ pub(crate) fn mutate<'a>(mut goal: Goal<'a>, a: u32) -> Result<Option<Children<'
 }
 
 /// new: the variable has a fresh symbol, and there is a cell of which no field is known.
+#[inline(never)]
 pub(crate) fn new<'a>(alloc: Global, mut goal: Goal<'a>) -> Result<Option<Children<'a>>, AllocError>
     requires { IsTrue (has_numbers goal.state) }
     ensures { IfOk result (λ left. option_map children_of left
@@ -119,6 +123,7 @@ pub(crate) fn new<'a>(alloc: Global, mut goal: Goal<'a>) -> Result<Option<Childr
 }
 
 /// dispose: the cell goes.
+#[inline(never)]
 pub(crate) fn dispose<'a>(mut goal: Goal<'a>, a: u32) -> Result<Option<Children<'a>>, AllocError>
     ensures { IfOk result (λ left. option_map children_of left
         ≡ at_command (dispose_row a goal.entry.state) (todo_of goal.entry.todo.items)) }

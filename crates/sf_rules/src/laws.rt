@@ -5,6 +5,7 @@
 
 ghost use Rattle.sf_rules.specs.Checked.LawsOfSettings.{ArrangedHasSetting, SettingExists, SettingIsUnique};
 ghost use Rattle.sf_rules.specs.Checked.LawsOfUpdates.{FieldsAreOneList, FieldsAreUpdated, VariablesAreOneList, VariablesAreUpdated};
+ghost use Rattle.sf_rules.specs.Checked.LawsOfRows.{RowLaws};
 ghost use Rattle.sf_rules.specs.Checked.LawsOfShape.{FirstGoalsAreShaped, FirstGoalsAreSmall, GoalsAreShaped, RowsKeepShape};
 ghost use Rattle.sf_rules.specs.Checked.RowCases.{RowsHaveCases};
 ghost use Rattle.sf_rules.specs.Checked.LawsOfRules.{RowsAreRules, RulesAreRows};
@@ -192,18 +193,11 @@ pub fn first_goals_are_small()
     held_resources_are_there();
 }
 
-/// Every row leaves shaped goals of a shaped goal, with fewer than `TOO_MANY` symbols and atoms
-/// more.
-pub fn rows_keep_shape()
-    ensures { RowsKeepShape }
+/// Each row has one of the cases, and keeps or does what its law says: all that is said of rows
+/// rests on these.
+pub fn rows_have_laws()
+    ensures { RowLaws }
 {
-    changes_are_assigned();
-    first_breach_is_broken();
-    held_resources_are_there();
-    undetermined_has_place();
-    never_taken_is_undetermined();
-    determined_has_order();
-    order_keeps_form();
     rows_have_cases();
     absurd_keeps_goals();
     drop_keeps_goals();
@@ -222,6 +216,21 @@ pub fn rows_keep_shape()
     assumed_branch_keeps_goals();
     subtraction_leaves_rest();
     shown_branch_leaves_rest();
+}
+
+/// Every row leaves shaped goals of a shaped goal, with fewer than `TOO_MANY` symbols and atoms
+/// more.
+pub fn rows_keep_shape()
+    ensures { RowsKeepShape }
+{
+    changes_are_assigned();
+    first_breach_is_broken();
+    held_resources_are_there();
+    undetermined_has_place();
+    never_taken_is_undetermined();
+    determined_has_order();
+    order_keeps_form();
+    rows_have_laws();
 }
 
 /// So each goal of a program's procedure is shaped, and after so many tags it has fewer than

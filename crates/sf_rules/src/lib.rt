@@ -6,6 +6,7 @@
 //! - `few`: how many new symbols at once are too many for a row.
 //! - `front`: what is in front of what there is to do.
 //! - `children`: what a tag leaves of a goal: the whole table.
+//! - `knowledge`: the rows of what a state tells alone, whatever is still to do.
 //! - `commands`: the rows of commands that touch a variable or a cell.
 //! - `decided`: which tests a state decides.
 //! - `branches`: the rows of choices.
@@ -27,6 +28,7 @@ mod decided;
 pub mod examples;
 pub mod few;
 mod front;
+mod knowledge;
 pub mod laws;
 mod loops;
 mod regions;

@@ -52,6 +52,7 @@ pub(crate) fn pending_in_order(
 }
 
 /// loop: the invariant is due, and then the loop begins.
+#[inline(never)]
 pub(crate) fn begin_loop<'a>(
     alloc: Global,
     goal: Goal<'a>,
@@ -75,6 +76,7 @@ pub(crate) fn begin_loop<'a>(
 
 /// around: what the body may change is unknown, where it has a term. First the body once, second
 /// what comes after the loop.
+#[inline(never)]
 pub(crate) fn around<'a>(
     alloc: Global,
     calls: &Calls,
@@ -247,6 +249,7 @@ fn negation(test: &Test<Expr>) -> Test<Expr>
 }
 
 /// again: the invariant is due, and nothing may be left.
+#[inline(never)]
 pub(crate) fn again<'a>(alloc: Global, goal: Goal<'a>) -> Result<Option<Children<'a>>, AllocError>
     ghost d: { Setting }
     requires { IsOrdering d.ordered }
@@ -264,6 +267,7 @@ pub(crate) fn again<'a>(alloc: Global, goal: Goal<'a>) -> Result<Option<Children
 
 /// return: what the procedure owes is due, one assertion after the other, and then nothing may be
 /// left.
+#[inline(never)]
 pub(crate) fn return_from<'a>(
     alloc: Global,
     goal: Goal<'a>,
@@ -290,6 +294,7 @@ fn only_end<'a>(alloc: Global, place: Place) -> Result<Vec<Item<'a>>, AllocError
 }
 
 /// end: no atom is left.
+#[inline(never)]
 pub(crate) fn end<'a>(goal: Goal<'a>) -> Result<Option<Children<'a>>, AllocError>
     ensures { IfOk result (λ left. option_map children_of left
         ≡ at_end (end_row goal.entry.state) (todo_of goal.entry.todo.items)) }

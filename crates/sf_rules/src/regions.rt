@@ -82,6 +82,7 @@ pub(crate) fn add_variables(
 
 /// enter: the resource's variables are there, with unknown values; its invariant and the condition
 /// are assumed.
+#[inline(never)]
 pub(crate) fn enter<'a>(
     alloc: Global,
     arranged: &'a Arranged,
@@ -149,6 +150,7 @@ fn enter_region<'a>(
 }
 
 /// exit: the invariant is due, and then the resource's variables are gone.
+#[inline(never)]
 pub(crate) fn exit<'a>(
     alloc: Global,
     arranged: &'a Arranged,

@@ -23,6 +23,7 @@ use sf_sym::{Goal, Pending, Tag, Term, with_take};
 use std::alloc::{AllocError, Global};
 
 /// add: the first conjunct to assume is assumed.
+#[inline(never)]
 pub(crate) fn assume<'a>(alloc: Global, goal: Goal<'a>) -> Result<Option<Children<'a>>, AllocError>
     requires { IsTrue (has_numbers goal.state) }
     ensures { IfOk result (λ left. option_map children_of left
@@ -42,6 +43,7 @@ pub(crate) fn assume<'a>(alloc: Global, goal: Goal<'a>) -> Result<Option<Childre
 }
 
 /// The step of subtraction that the tag names, at the first wanted conjunct.
+#[inline(never)]
 pub(crate) fn show<'a>(
     alloc: Global,
     goal: Goal<'a>,

@@ -1,9 +1,11 @@
 -- The form of what a goal has to do: in front of it more may be assumed, shown or run, other terms leave it as it is, and a
 -- command is followed by commands up to an end.
--- Names: `WHAT-with` of other terms, `WHAT-form` of goals, `adding-assuming`, `taking-showing`, `body-LAW`.
+-- Names: `WHAT-with` of other terms, `WHAT-form` of goals, `adding-assuming`, `taking-showing`, `body-LAW`, `showing-empty`.
 use Rattle.std.specs.List.{AllByRecursion}
 use Rattle.std.proofs.Common.{◌≡◌, ℕ, List, [], ◌∷◌, ◌++◌, map, sym, subst, inl, inr}
 use Rattle.sf_base.specs.declared.place.Place.{Place}
+use Rattle.sf_base.specs.declared.value.Value.{Value}
+use Rattle.sf_base.specs.HeapStore.{Heap, IsEmpty}
 use Rattle.sf_core.specs.declared.fields.Links.{Links}
 use Rattle.sf_core.specs.Program.Syntax.{Block, done, then, Command, Conjuncts, none, also}
 use Rattle.sf_rules.specs.Checked.LawsOfCommands.{before_command}
@@ -11,6 +13,7 @@ use Rattle.sf_sym.specs.declared.term.Term.{Term}
 use Rattle.sf_sym.specs.Equalities.{item_with}
 use Rattle.sf_sym.specs.Formed.{ItemFormed}
 use Rattle.sf_sym.specs.Goal.{Item, run, add, take, gave, head, again, exit, return, end, Goal, adding, taking, to_run, unless_none}
+use Rattle.sf_sym.specs.Holds.{AddsHold}
 use Rattle.sf_sym.specs.Pending.{Pending}
 use Rattle.sf_sym.specs.Shape.{HasForm, IsAssuming, IsBody, IsShowing}
 use Rattle.sf_sym.specs.State.{State}
@@ -81,6 +84,20 @@ taking-showing q want names rest i = go want.conjuncts
     go : (cs : Conjuncts Term) → IsShowing (unless_none cs (take q want names) ++ rest)
     go none = i
     go (also c cs) = i
+
+-- nothing is assumed at once where something is shown first
+pub showing-empty : (w : ℕ → Value) (todo : List Item) (heap : Heap) → IsShowing todo → IsEmpty heap
+    → AddsHold w todo heap
+showing-empty w [] heap i e = absurd i
+showing-empty w (take q want names ∷ rest) heap i e = e
+showing-empty w (gave q set removed ∷ rest) heap i e = e
+showing-empty w (head q test invariant body ∷ rest) heap i e = e
+showing-empty w (end q ∷ rest) heap i e = e
+showing-empty w (run c ∷ rest) heap i e = absurd i
+showing-empty w (add q given ∷ rest) heap i e = absurd i
+showing-empty w (exit q r ∷ rest) heap i e = absurd i
+showing-empty w (again q invariant ∷ rest) heap i e = absurd i
+showing-empty w (return q post ∷ rest) heap i e = absurd i
 
 pub body-assuming : (todo : List Item) → IsBody todo → IsAssuming todo
 body-assuming [] b = b
