@@ -1,7 +1,6 @@
 pub mod Answered
 pub mod Drops
 pub mod Knowing
-pub mod Views
 pub mod Walking
 pub mod Parts
 pub mod Trees

@@ -2,6 +2,7 @@
 -- One module for each.
 pub mod Known
 pub mod Laws
+pub mod Lemmas
 pub mod Places
 pub mod StartIsProp
 pub mod Taking

@@ -11,8 +11,7 @@ use Rattle.sf_core.specs.Machine.Step.{Event}
 use Rattle.sf_core.specs.Program.Syntax.{Program}
 use Rattle.sf_part.specs.Timed.{Stamped}
 use Rattle.sf_replay.specs.ScheduleText.{events_of}
-use Rattle.sf_trace.proofs.Weights.{equal_weights_permute}
-use Rattle.sf_trace.specs.Checked.Laws.{EqualWeightsPermute}
+use Rattle.sf_trace.specs.Checked.Lemmas.Weights.{weights-permute}
 use Rattle.sf_trace.specs.Logs.{Rising, Timed, acts_in, entry_of}
 use Rattle.sf_trace.specs.Trace.{Act, events_in}
 use Rattle.sf_journal.proofs.EntryOrder.{entry-less, sorted-before}
@@ -27,8 +26,7 @@ Rises (x ∷ xs) = ((y : Stamped) → Contains xs y → x.stamp < y.stamp) × Ri
 
 -- what has the same elements without the first has them with it, and the other way round
 order-rest : (x : Stamped) (xs ys : List Stamped) → IsPermutation (x ∷ xs) (x ∷ ys) → IsPermutation xs ys
-unfolding EqualWeightsPermute
-order-rest x xs ys same = equal_weights_permute xs ys (λ weigh.
+order-rest x xs ys same = weights-permute xs ys (λ weigh.
     let whole = sum_by-IsPermutation weigh (x ∷ xs) (x ∷ ys) same in
     let one = sum_by-cons weigh x xs in
     let other = sum_by-cons weigh x ys in

@@ -6,7 +6,7 @@ use Rattle.std.proofs.lemmas.List.Sorted.{IsPermutation-refl}
 use Rattle.sf_base.proofs.Elements.{contains-cons, contains-nil}
 use Rattle.sf_core.specs.Program.Syntax.{Program}
 use Rattle.sf_part.specs.Timed.{Stamped}
-use Rattle.sf_trace.proofs.Traces.{trace-of}
+use Rattle.sf_trace.specs.Checked.Lemmas.Traces.{trace-of}
 use Rattle.sf_trace.specs.Logs.{Rising, Timed, acts_in, entry_of}
 use Rattle.sf_trace.specs.Trace.{Act, Traces, events_in}
 use Rattle.sf_journal.proofs.EntryOrder.{entry-less, entry-order}

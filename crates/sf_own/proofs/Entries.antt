@@ -15,7 +15,8 @@ use Rattle.sf_core.specs.Machine.Step.{Event, TaskStep, Does}
 use Rattle.sf_core.specs.Machine.Whole.{Part, running, stand_of}
 use Rattle.sf_core.specs.Program.Syntax.{Block, with, Program}
 use Rattle.sf_own.proofs.Contents.{content-free, share_of}
-use Rattle.sf_own.proofs.Standing.{does-shape, frame_with, running-safe}
+use Rattle.sf_part.specs.Checked.Lemmas.Shapes.{next-shape}
+use Rattle.sf_own.proofs.Standing.{frame_with, running-safe}
 use Rattle.sf_own.proofs.Tokens.{HoldsMore, holds-entered, token-more}
 use Rattle.sf_own.specs.Checked.Laws.{EntriesKeepSafe}
 use Rattle.sf_own.specs.Checked.Safe.{HoldsWithin, IsSafe, own_of}
@@ -131,4 +132,4 @@ unfolding EntriesKeepSafe
 entries_keep_safe p known owed ev before content after e exactly s =
     let (f, below, place, test, body, rest, is) = e.entry in
     entry-safe p owed ev before content after e exactly s f below place test body rest
-    (does-shape e.frames f below (with place content.content.resource test body) rest is)
+    (next-shape e.frames f below (with place content.content.resource test body) rest is)

@@ -12,7 +12,8 @@ use Rattle.sf_core.specs.Machine.Whole.{Part, running, stand_of}
 use Rattle.sf_core.specs.Program.Syntax.{Program}
 use Rattle.sf_own.proofs.Annotations.{determined-invariant}
 use Rattle.sf_own.proofs.Contents.{content_of, content-of_free}
-use Rattle.sf_own.proofs.Standing.{frame_with, leaves-shape, running-safe}
+use Rattle.sf_part.specs.Checked.Lemmas.Shapes.{leave-shape}
+use Rattle.sf_own.proofs.Standing.{frame_with, running-safe}
 use Rattle.sf_own.proofs.Tokens.{HoldsMore, holds-left, token-more}
 use Rattle.sf_own.specs.Checked.Accepted.{IsAccepted}
 use Rattle.sf_own.specs.Checked.Laws.{ExitsKeepSafe}
@@ -164,4 +165,4 @@ unfolding ExitsKeepSafe
 exits_keep_safe law p accepted owed ev before content after g s =
     let (f, below, rest, is) = g.exits.exit in
     exit-safe p accepted law owed ev before content after g s f below rest
-    (leaves-shape g.exits.frames f below content.content.resource rest is)
+    (leave-shape g.exits.frames f below content.content.resource rest is)

@@ -18,7 +18,8 @@ use Rattle.sf_own.proofs.Exits.{part_with}
 use Rattle.sf_own.proofs.Lending.{Lending, kept-tokens, lend, lend-tokens, lent_known, opened_own, sums-cells, sums-slots}
 use Rattle.sf_own.proofs.Private.{taken-there}
 use Rattle.sf_own.proofs.Shares.{call-plain, fork-within, share-of}
-use Rattle.sf_own.proofs.Standing.{does-shape, frame_with, running-safe}
+use Rattle.sf_part.specs.Checked.Lemmas.Shapes.{next-shape}
+use Rattle.sf_own.proofs.Standing.{frame_with, running-safe}
 use Rattle.sf_own.proofs.Tokens.{holds-same}
 use Rattle.sf_own.proofs.Unions.{tokens-none, tokens-same}
 use Rattle.sf_own.specs.Checked.Accepted.{IsAccepted}
@@ -71,7 +72,7 @@ module _ (p : Program) (accepted : IsAccepted p) (law : LentSharesAreOne) (owed 
   frame = frame_with f (command (fork place c d) ∷ rest)
 
   shape : x.forks.frames ≡ frame ∷ below
-  shape = does-shape x.forks.frames f below (fork place c d) rest is
+  shape = next-shape x.forks.frames f below (fork place c d) rest is
 
   stand : a.stand ≡ running (frame ∷ below)
   stand = x.forks.acts.from_is ∙ ap running shape

@@ -16,7 +16,8 @@ use Rattle.sf_core.specs.Machine.Whole.{Part, running}
 use Rattle.sf_core.specs.Program.Syntax.{assign, look_up, mutate, new, dispose, if, while, call, fork, with, Program}
 use Rattle.sf_own.proofs.Contents.{content_of, content-of_free}
 use Rattle.sf_own.proofs.Exits.{exit-leaving, part_with}
-use Rattle.sf_own.proofs.Standing.{frame_with, leaves-shape, running-safe}
+use Rattle.sf_part.specs.Checked.Lemmas.Shapes.{leave-shape}
+use Rattle.sf_own.proofs.Standing.{frame_with, running-safe}
 use Rattle.sf_own.specs.Checked.LawsOfNeeds.{AbsentNeverComes, CellsAreThere, ContentsAreThere, EndedEntriesMeetTheirs, EndedPartsAreReturned}
 use Rattle.sf_own.specs.Checked.Safe.{own_of}
 use Rattle.sf_part.specs.Answers.{Misses}
@@ -106,7 +107,7 @@ absent_never_comes p owed a v s (frames, stand, (units, misses)) =
 pub contents_are_there : ContentsAreThere
 unfolding ContentsAreThere
 contents_are_there p owed a r s (frames, stand, (f, below, rest, is)) lacks =
-    let shape = leaves-shape frames f below r rest is in
+    let shape = leave-shape frames f below r rest is in
     let l = exit-leaving p 0 owed f rest below r (own_of a)
     (running-safe p owed a (frame_with f (leave r ∷ rest) ∷ below) s (stand ∙ ap running shape)
     1) in

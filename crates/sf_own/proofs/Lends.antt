@@ -21,7 +21,8 @@ use Rattle.sf_core.specs.Machine.Whole.{Part, Range, numbers, running, waiting}
 use Rattle.sf_core.specs.Program.Syntax.{Call, fork, Procedure, Program}
 use Rattle.sf_own.proofs.Lending.{Lending, lend, lend-has, lent_known, opened_own, sums-cells, sums-slots}
 use Rattle.sf_own.proofs.Shares.{call-there, fork-within, share-of}
-use Rattle.sf_own.proofs.Standing.{does-shape, frame_with, running-safe}
+use Rattle.sf_part.specs.Checked.Lemmas.Shapes.{next-shape}
+use Rattle.sf_own.proofs.Standing.{frame_with, running-safe}
 use Rattle.sf_own.specs.Checked.Accepted.{IsAccepted}
 use Rattle.sf_own.specs.Checked.LawsOfNeeds.{MayLend, SharesAreThere}
 use Rattle.sf_own.specs.Checked.Safe.{IsSafe, own_of}
@@ -250,6 +251,6 @@ unfolding SharesAreThere
 shares_are_there p accepted owed a frames keeps of s stand (f, below, place, c, d, rest, is) turns
     unit =
     let first = first-of (numbers a.part.supply) unit in
-    let shape = does-shape frames f below (fork place c d) rest is in
+    let shape = next-shape frames f below (fork place c d) rest is in
     lends-there p accepted owed a keeps of s f below place c d rest (stand ∙ ap running shape) turns
     first.0 first.1 first.2

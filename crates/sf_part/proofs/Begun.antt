@@ -158,7 +158,7 @@ begun-few p g is_fresh b vars heap parts kind z =
     go (fresh n h) = omega arith
 
 -- the part of the code as it begins, by its pieces
-pub begun-same : (task : Path) (stack : Stack) (new : Shared) (supply : List Range)
+begun-same : (task : Path) (stack : Stack) (new : Shared) (supply : List Range)
     (log : List Stamped) (keep : Bool) (base count : ℕ) → task ≡ []
     → supply ≡ record { first = base; count = count } ∷ [] → log ≡ []
     → part_with [] (Runs stack) new (record { first = base; count = count } ∷ []) 0 keep [] count
@@ -339,6 +339,17 @@ before-room h first st i less e =
     (st (own 0 i)))) out ∙ e
 
 -- WHAT IS THERE once the contents are parted off
+-- what the first part comes to, and the contents of the resources beside it
+pub record First (p : Program) (f : ProcId) (is_fresh : Bool) (vars : Vars) (heap : Cells)
+    (base count : ℕ) (new : Shared) (contents : List CodeContent) (part : TimedPart) : Type 0 where
+  pub starts : Starts p f is_fresh vars heap base count part (map content_of contents)
+  pub kept : Keeps part
+  pub of : IsOf p part.part
+  pub own : AreOwn new.held part.part.task
+  pub wide : HasWidth (length p.fields) new.heap
+  pub contents_in : AllByRecursion (λ (k : CodeContent). IsContentIn p k) contents
+  pub exactly : AllByRecursion (λ (k : CodeContent). IsContentOf p (content_of k).content) contents
+
 module _ (p : Program) (formed : IsFormed p) (f : ProcId) (is_fresh : Bool) (vars : Vars)
     (heap : Cells) (parts : List (List ℕ)) (s : StartsWith p f is_fresh vars heap parts)
     (unfree : (r : ResId) (i : ℕ) → Free p f (shared_variable r i) → ⊥) (old new : Shared)
@@ -433,7 +444,7 @@ module _ (p : Program) (formed : IsFormed p) (f : ProcId) (is_fresh : Bool) (var
     part = part_with [] (Runs stack) new (record { first = base; count = count } ∷ []) 0 keep []
         count
 
-    pub begun-of : IsOf p part.part
+    begun-of : IsOf p part.part
     begun-of = record {
       stands = subst (FramesAreOf p (kept_in new.store)) (sym frames)
           (frames-of b refl start.init);
@@ -454,7 +465,7 @@ module _ (p : Program) (formed : IsFormed p) (f : ProcId) (is_fresh : Bool) (var
     left location c e = sym (ap (λ (z : Cells). heap_of z location) cells)
         ∙ splits-has_left location c parted.heap.1 e
 
-    pub begun-starts : Starts p f is_fresh vars heap base count part (map content_of contents)
+    begun-starts : Starts p f is_fresh vars heap base count part (map content_of contents)
     begun-starts = record {
       procedure = g;
       there = s.there;
@@ -508,7 +519,7 @@ module _ (p : Program) (formed : IsFormed p) (f : ProcId) (is_fresh : Bool) (var
               (Some (slice_index_or vars.own.items i nil)) None)) t.0
         ]
 
-    pub begun-keeps : Keeps part
+    begun-keeps : Keeps part
     begun-keeps = record {
       once = λ n. subst (λ z. times n z ≤ 1) (sym (append-nil (units base count)))
           (units-once n base count);
@@ -528,11 +539,11 @@ module _ (p : Program) (formed : IsFormed p) (f : ProcId) (is_fresh : Bool) (var
       };
     }
 
-  pub begun-own : AreOwn new.held []
+  begun-own : AreOwn new.held []
   begun-own r holder e = holds-own b p (record { 0 = r }) holder
       (ap (λ (q : ResId → Option Path). q (record { 0 = r })) (sym held) ∙ e)
 
-  pub begun-wide : HasWidth (length p.fields) new.heap
+  begun-wide : HasWidth (length p.fields) new.heap
   begun-wide = parted.wide (length p.fields)
       (subst (HasWidth (length p.fields)) (sym cells) s.width)
 
@@ -659,11 +670,32 @@ module _ (p : Program) (formed : IsFormed p) (f : ProcId) (is_fresh : Bool) (var
           h) just print.foot.sat);
     }
 
-  pub begun-all_in : AllByRecursion (λ (k : CodeContent). IsContentIn p k) contents
+  begun-all_in : AllByRecursion (λ (k : CodeContent). IsContentIn p k) contents
   begun-all_in = all-lookups (λ (k : CodeContent). IsContentIn p k) contents begun-in
 
-  pub begun-all_exactly : AllByRecursion
+  begun-all_exactly : AllByRecursion
       (λ (k : CodeContent). IsContentOf p (content_of k).content) contents
   begun-all_exactly = all-lookups (λ (k : CodeContent). IsContentOf p (content_of k).content)
       contents
       begun-exactly
+
+  -- all of it, for a part that is made of pieces that are the same
+  pub begun-first : (stack : Stack) (keep : Bool) (base count : ℕ)
+      → stack_of stack ≡ first_frames b f g → IsFreshFrom vars heap base → count ≤ STEPS
+      → (task : Path) → task ≡ [] → (supply : List Range)
+      → supply ≡ record { first = base; count = count } ∷ [] → (log : List Stamped) → log ≡ []
+      → First p f is_fresh vars heap base count new contents
+      (part_with task (Runs stack) new supply 0 keep log count)
+  begun-first stack keep base count frames above most task t supply u log l =
+      let same = begun-same task stack new supply log keep base count t u l in
+      record {
+        starts = subst (λ (a : TimedPart). Starts p f is_fresh vars heap base count a
+            (map content_of contents)) same (begun-starts stack keep base count frames above most);
+        kept = subst Keeps same (begun-keeps stack keep base count frames above most);
+        of = subst (λ (a : TimedPart). IsOf p a.part) same
+            (begun-of stack keep base count frames above most);
+        own = λ r holder e. begun-own r holder e ∙ sym t;
+        wide = begun-wide;
+        contents_in = begun-all_in;
+        exactly = begun-all_exactly;
+      }

@@ -30,7 +30,7 @@ use Rattle.sf_part.specs.Steps.{Exits, Forks, HasChildren, IsLocal, IsPrivate, J
 use Rattle.sf_part.specs.Timed.{TimedPart}
 use Rattle.sf_part.specs.Joining.{GoesOnIn}
 use Rattle.sf_part.proofs.Beside.{takes-fork, takes-one}
-use Rattle.sf_part.proofs.Entries.{next-shape}
+use Rattle.sf_part.specs.Checked.Lemmas.Shapes.{next-shape}
 use Rattle.sf_part.proofs.Owned.{frames-grow, goes-frame, room-clear}
 use Rattle.sf_part.proofs.Regained.{three-both, three-rest}
 use Rattle.sf_part.proofs.Sites.{sites-rest}

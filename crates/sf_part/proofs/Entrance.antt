@@ -41,7 +41,8 @@ use Rattle.sf_part.specs.PartView.{IsPartOf, part_of}
 use Rattle.sf_part.specs.Stands.{stand_in}
 use Rattle.sf_part.specs.Timed.{TimedPart}
 use Rattle.sf_part.specs.Steps.{Enters, HasInHand, common_of as part_common}
-use Rattle.sf_part.proofs.Entries.{enter-frames, enter-slots, next-shape}
+use Rattle.sf_part.specs.Checked.Lemmas.Shapes.{next-shape}
+use Rattle.sf_part.proofs.Entries.{enter-frames, enter-slots}
 use Rattle.sf_part.proofs.Made.{part-common}
 use Rattle.sf_part.proofs.Orders.{order-enter}
 use Rattle.sf_part.proofs.Supplies.{one_if}

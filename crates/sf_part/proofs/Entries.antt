@@ -17,12 +17,12 @@ use Rattle.sf_base.specs.HeapStore.{Slot, Splits, Store, shared}
 use Rattle.sf_core.specs.declared.assertion.Test.{Test}
 use Rattle.sf_core.specs.declared.command.Expr.{Expr}
 use Rattle.sf_core.specs.declared.command.Occurrence.{Occurrence}
-use Rattle.sf_core.specs.Machine.Config.{Item, command, leave, items, in_room, Fixed, Frame, runs}
+use Rattle.sf_core.specs.Machine.Config.{Item, command, leave, items, in_room, Fixed, Frame}
 use Rattle.sf_core.specs.Machine.Enabled.{variable, Reads, Writes}
-use Rattle.sf_core.specs.Machine.Next.{does, leaves, returns, frame_next, next}
+use Rattle.sf_core.specs.Machine.Next.{does, next}
 use Rattle.sf_core.specs.Program.Formed.{IsFormed, variable_count}
 use Rattle.sf_core.specs.Program.Heads.{head_regions, occurrences_at, sites}
-use Rattle.sf_core.specs.Program.Syntax.{Block, Command, with, Program}
+use Rattle.sf_core.specs.Program.Syntax.{Block, with, Program}
 use Rattle.sf_frame.specs.Checked.Nexts.{frames_with}
 use Rattle.sf_part.specs.Contents.{IsContentIn, content_of}
 use Rattle.sf_part.specs.declared.content.Content.{Content}
@@ -30,30 +30,6 @@ use Rattle.sf_part.specs.Of.{FramesAreOf, IsVariable, inside, without}
 use Rattle.sf_part.proofs.Occur.{OccursIn, reads-occur}
 use Rattle.sf_part.proofs.Owned.{Grows, frames-grow, grows-cond, variable-near}
 use Rattle.sf_part.proofs.Sites.{inside-items, sites-enter, sites-first}
-
--- the frames that do that next
-pub next-shape : (frames : List Frame) (f : Fixed) (below : List Frame) (c : Command)
-    (rest : List Item)
-    → next (runs frames) ≡ does f below c rest → frames ≡ frames_with f (command c ∷ rest) below
-next-shape [] f below c rest e = absurd (cc)
-next-shape (g ∷ others) f below c rest e = go g.todo refl e
-  where
-    go : (todo : List Item) → g.todo ≡ todo → frame_next g.fixed others g.todo ≡ does f below c rest
-        → g ∷ others ≡ frames_with f (command c ∷ rest) below
-    go [] i h = absurd (let k : returns g.fixed others ≡ does f below c rest =
-        sym (ap (frame_next g.fixed others) i) ∙ h in cc)
-    go (leave r ∷ todo) i h =
-        absurd (let k : leaves g.fixed others r todo ≡ does f below c rest =
-        sym (ap (frame_next g.fixed others) i) ∙ h in cc)
-    go (command d ∷ todo) i h =
-        let k : does g.fixed others d todo ≡ does f below c rest =
-        sym (ap (frame_next g.fixed others) i) ∙ h in
-        let fixed : g.fixed ≡ f = cc in
-        let frames : others ≡ below = cc in
-        let same : d ≡ c = cc in
-        let after : todo ≡ rest = cc in
-        (λ j. record { fixed = fixed j; todo = (i ∙ (λ m. command (same m) ∷ after m)) j }
-        ∷ frames j)
 
 -- with the content's slots beside it, the part has those of the region's resource
 module _ (p : Program) (formed : IsFormed p) (before after : Store) (k : Content)

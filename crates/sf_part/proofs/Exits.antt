@@ -23,7 +23,7 @@ use Rattle.sf_calls.specs.FirstBreach.{Conditions}
 use Rattle.sf_core.specs.Assertions.Sat.{Sat, value}
 use Rattle.sf_core.specs.Checked.Machine.InOrder.{regions}
 use Rattle.sf_core.specs.Machine.Config.{Item, command, leave, Fixed, Frame, runs, Path, Common, evaluate}
-use Rattle.sf_core.specs.Machine.Next.{does, leaves, returns, frame_next, next}
+use Rattle.sf_core.specs.Machine.Next.{leaves, next}
 use Rattle.sf_core.specs.Machine.Start.{entry_slot}
 use Rattle.sf_core.specs.Machine.Step.{set_holder}
 use Rattle.sf_core.specs.Machine.Supplies.{has, NextTakes}
@@ -39,6 +39,7 @@ use Rattle.sf_frame.specs.declared.frame.Way.TheVariants.{Past}
 use Rattle.sf_frame.specs.declared.stack.Change.TheVariants.{GoOn}
 use Rattle.sf_heap.specs.Cells.{cell_of}
 use Rattle.sf_part.specs.Checked.Giving.{IsGivenUp}
+use Rattle.sf_part.specs.Checked.Lemmas.Shapes.{leave-shape}
 use Rattle.sf_part.specs.Checked.Sharing.{HasNoShare, IsOwnOf, IsShare, seen_in}
 use Rattle.sf_part.specs.Checked.Stepping.{own_event}
 use Rattle.sf_part.specs.Contents.{IsContentIn, content_of}
@@ -57,31 +58,6 @@ use Rattle.sf_part.proofs.Made.{part-common}
 use Rattle.sf_part.proofs.Orders.{order-leave}
 use Rattle.sf_part.proofs.Spared.{GoneOf, Stays, spare-frames, spare-left}
 use Rattle.sf_part.proofs.Supplies.{one_if}
-
--- the frames that leave that next
-pub leave-shape : (frames : List Frame) (f : Fixed) (below : List Frame) (r : ResId)
-    (rest : List Item)
-    → next (runs frames) ≡ leaves f below r rest → frames ≡ frames_with f (leave r ∷ rest) below
-leave-shape [] f below r rest e = absurd (cc)
-leave-shape (g ∷ others) f below r rest e = go g.todo refl e
-  where
-    go : (todo : List Item) → g.todo ≡ todo
-        → frame_next g.fixed others g.todo ≡ leaves f below r rest
-        → g ∷ others ≡ frames_with f (leave r ∷ rest) below
-    go [] i h = absurd (let k : returns g.fixed others ≡ leaves f below r rest =
-        sym (ap (frame_next g.fixed others) i) ∙ h in cc)
-    go (command d ∷ todo) i h =
-        absurd (let k : does g.fixed others d todo ≡ leaves f below r rest =
-        sym (ap (frame_next g.fixed others) i) ∙ h in cc)
-    go (leave q ∷ todo) i h =
-        let k : leaves g.fixed others q todo ≡ leaves f below r rest =
-        sym (ap (frame_next g.fixed others) i) ∙ h in
-        let fixed : g.fixed ≡ f = cc in
-        let frames : others ≡ below = cc in
-        let same : q ≡ r = cc in
-        let after : todo ≡ rest = cc in
-        (λ j. record { fixed = fixed j; todo = (i ∙ (λ m. leave (same m) ∷ after m)) j }
-        ∷ frames j)
 
 -- the frames of a task at an exit
 pub record AtExit (a : CodePart) (r : ResId) : Type 0 where

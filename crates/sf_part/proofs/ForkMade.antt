@@ -1,6 +1,6 @@
 -- A fork that was planned and made lends just the shares of the two children.
 -- Names: `split-LAW`.
-use Rattle.std.specs.Prelude.{◌≡◌, ◌↔◌, ◌+◌, ℕ, Bool, true, false, cond, List, [], ◌∷◌, ◌++◌, drop, map, Option, Some, None, Contains, is_some}
+use Rattle.std.specs.Prelude.{◌≡◌, ◌↔◌, ◌+◌, ℕ, Bool, true, false, cond, List, [], ◌∷◌, ◌++◌, drop, map, Option, Some, None, Contains, is_some, length}
 use Rattle.std.specs.FinMap.{get}
 use Rattle.std.proofs.Common.{true≢false, sym, ap, ◌∙◌, refl, subst, inl, inr, arith}
 use Rattle.std.proofs.lemmas.Option.{same_Some}
@@ -96,6 +96,22 @@ cells-same whole at cells part others s is are sub = map-same part (heap_of cell
     given-same (part l) (heap_of cells l) (whole l)
     (same-there (part l) (get cells l) _ (is l) (are l) ∙ sym (is_some-map cell_of (get cells l)))
     (λ v e. splits-has_left l v s e) (sub l))
+
+-- what a fork comes to that was made: the shares are lent, its three parts keep what parts keep and are
+-- the program's, and their cells keep their fields
+pub record Made (p : Program) (event : Event) (a : CodePart) (now : Shared) (one two : Begun)
+    (after first second : TimedPart) : Type 0 where
+  pub lends : Lends p event (part_of a) after first second
+  pub kept : Keeps after
+  pub left_kept : Keeps first
+  pub right_kept : Keeps second
+  pub held : (common_of now).held ≡ (common_of a.shared).held
+  pub of : IsOf p after.part
+  pub left_of : IsOf p first.part
+  pub right_of : IsOf p second.part
+  pub left_wide : HasWidth (length p.fields) one.shared.heap
+  pub right_wide : HasWidth (length p.fields) two.shared.heap
+  pub wide : HasWidth (length p.fields) now.heap
 
 module _ (p : Program) (formed : IsFormed p) (a : CodePart) (of : IsPartOf p a) (number : ℕ)
     (units : numbers a.supply ≡ number ∷ drop 1 (numbers a.supply)) (x : Forked)
@@ -299,7 +315,7 @@ module _ (p : Program) (formed : IsFormed p) (a : CodePart) (of : IsPartOf p a) 
     stand_now : stand_in stand ≡ waiting kept
     stand_now = stands ∙ ap (λ z. waiting (moved (GoOn Past) (frames_in z))) s.stand
 
-    pub split-held : (common_of now).held ≡ before.held
+    split-held : (common_of now).held ≡ before.held
     split-held = made.out.right_out.held ∙ made.out.left_out.held
         ∙ ap (λ (z : Common). z.held) made.opens
 
@@ -441,7 +457,7 @@ module _ (p : Program) (formed : IsFormed p) (a : CodePart) (of : IsPartOf p a) 
           (sym is) foot.foot.sat);
     }
 
-    pub split-lends : Lends p (own_event a number) (part_of a) after first second
+    split-lends : Lends p (own_event a number) (part_of a) after first second
     split-lends = record {
       forks = split-forks;
       left = one_frame;
@@ -456,28 +472,28 @@ module _ (p : Program) (formed : IsFormed p) (a : CodePart) (of : IsPartOf p a) 
           out.two_foot two_cells;
     }
 
-    pub split-kept : Keeps after
+    split-kept : Keeps after
     split-kept = forked-parent p (own_event a number) (part_of a) after first second split-forks
         a.kept
 
-    pub split-left_kept : Keeps first
+    split-left_kept : Keeps first
     split-left_kept = forked-left p (own_event a number) (part_of a) after first second
         split-forks a.kept
 
-    pub split-right_kept : Keeps second
+    split-right_kept : Keeps second
     split-right_kept = forked-right p (own_event a number) (part_of a) after first second
         split-forks a.kept
 
     -- all three are the program's
-    pub split-left_of : IsOf p first.part
+    split-left_of : IsOf p first.part
     split-left_of = fork-left_of p formed a of number x s opened.store first.part one_just
         (ap running made.out.left_stack) (nobody one.shared made.out.left_out.none)
 
-    pub split-right_of : IsOf p second.part
+    split-right_of : IsOf p second.part
     split-right_of = fork-right_of p formed a of number x s opened.store second.part two_just
         (ap running made.out.right_stack) (nobody two.shared made.out.right_out.none)
 
-    pub split-of : IsOf p after.part
+    split-of : IsOf p after.part
     split-of = record {
       stands = subst (StandIsOf p (store_of now.store)) (sym stand_now) (
         opened.store,
@@ -503,7 +519,7 @@ module _ (p : Program) (formed : IsFormed p) (a : CodePart) (of : IsPartOf p a) 
     }
 
     -- cells have the fields of the program
-    pub split-wide : (count : ℕ) → fields ≡ count → HasWidth count a.shared.heap
+    split-wide : (count : ℕ) → fields ≡ count → HasWidth count a.shared.heap
         → HasWidth count one.shared.heap × HasWidth count two.shared.heap
         × HasWidth count now.heap
     split-wide count e w =
@@ -514,3 +530,21 @@ module _ (p : Program) (formed : IsFormed p) (a : CodePart) (of : IsPartOf p a) 
           λ l v h. all_wide l v (splits-has_right l v made.out.left_out.cells
               (splits-has_right l v made.out.right_out.cells h)),
         )
+
+    pub split-made : fields ≡ length p.fields
+        → Made p (own_event a number) a now one two after first second
+    split-made e =
+        let wide = split-wide (length p.fields) e of.wide in
+        record {
+          lends = split-lends;
+          kept = split-kept;
+          left_kept = split-left_kept;
+          right_kept = split-right_kept;
+          held = split-held;
+          of = split-of;
+          left_of = split-left_of;
+          right_of = split-right_of;
+          left_wide = wide.0;
+          right_wide = wide.1;
+          wide = wide.2;
+        }

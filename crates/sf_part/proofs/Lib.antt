@@ -34,6 +34,8 @@ pub mod Times
 pub mod Parting
 pub mod Begun
 pub mod Performed
+pub mod Unchanged
+pub mod Acted
 pub mod Held
 pub mod Made
 pub mod Guarded

@@ -20,7 +20,7 @@ use Rattle.sf_core.specs.Machine.Next.{next}
 use Rattle.sf_core.specs.Machine.Whole.{running, Part}
 use Rattle.sf_core.specs.Program.Formed.{IsFormed}
 use Rattle.sf_core.specs.Program.Syntax.{Block, with, Program}
-use Rattle.sf_part.proofs.Entries.{next-shape}
+use Rattle.sf_part.specs.Checked.Lemmas.Shapes.{next-shape}
 use Rattle.sf_part.proofs.HandedOut.{exits-none}
 use Rattle.sf_part.proofs.Held.{times-regions}
 use Rattle.sf_part.proofs.Orders.{has-called}

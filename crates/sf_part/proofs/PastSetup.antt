@@ -13,7 +13,7 @@ use Rattle.sf_core.specs.Program.Heads.{head_calls}
 use Rattle.sf_core.specs.Program.Init.{sets_up}
 use Rattle.sf_core.specs.Program.Syntax.{Call, Command, assign, look_up, mutate, new, dispose, if, while, call, fork, with, Program}
 use Rattle.sf_frame.specs.Checked.Nexts.{frames_with}
-use Rattle.sf_part.proofs.Entries.{next-shape}
+use Rattle.sf_part.specs.Checked.Lemmas.Shapes.{next-shape}
 use Rattle.sf_part.proofs.Sites.{sites-first}
 use Rattle.sf_part.specs.Checked.LawsOfGoing.{ChildrenArePastSetup, GoingStaysPastSetup, IsPastSetup, PastSetupNothingSettles}
 use Rattle.sf_part.specs.Going.{GoesTo, stays, steps, enters, leaves, forks}

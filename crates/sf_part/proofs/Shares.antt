@@ -17,7 +17,7 @@ use Rattle.sf_part.specs.Supplied.{Share, units, lent_out, share_of, shares, sha
 use Rattle.sf_part.proofs.Trees.{Tree, leaf, node, at, put, labels, entry, entry-here, trees-leaf, trees-node, trees-back}
 
 -- a task that has units has just these
-share-units : (o : Option Supply) (us : List ℕ) → option_map share_of o ≡ Some (units us)
+pub share-units : (o : Option Supply) (us : List ℕ) → option_map share_of o ≡ Some (units us)
     → o ≡ Some (has us)
 share-units None us e = absurd (cc)
 share-units (Some (has vs)) us e =
@@ -28,7 +28,7 @@ share-units (Some (lent one two)) us e =
     let h : lent_out ≡ units us = same_Some lent_out (units us) e in absurd (cc)
 
 -- a task that has lent its units has lent them to two
-share-lent : (o : Option Supply) → option_map share_of o ≡ Some lent_out
+pub share-lent : (o : Option Supply) → option_map share_of o ≡ Some lent_out
     → (one : Supply) × (two : Supply) × (o ≡ Some (lent one two))
 share-lent None e = absurd (cc)
 share-lent (Some (has us)) e =
@@ -36,7 +36,7 @@ share-lent (Some (has us)) e =
 share-lent (Some (lent one two)) e = (one, two, refl)
 
 -- what the supply at a path has below it
-supply_at-child : (path : Path) (tree one two : Supply) → supply_at path tree ≡ Some (lent one two)
+pub supply_at-child : (path : Path) (tree one two : Supply) → supply_at path tree ≡ Some (lent one two)
     → (supply_at (path ++ left ∷ []) tree ≡ Some one)
     × (supply_at (path ++ right ∷ []) tree ≡ Some two)
 supply_at-child [] (has us) one two e = absurd (cc)

@@ -2,12 +2,11 @@
 -- called, nobody has a variable of it.
 -- Names: `held-LAW` of the resources that a procedure holds, `free-LAW` of variables that are free,
 -- `passed-LAW` of those that are passed.
-use Rattle.std.specs.Prelude.{◌≡◌, ℕ, List, ◌∷◌, ◌++◌, None, Some, Contains}
-use Rattle.std.specs.List.{flat_map, slice_get}
+use Rattle.std.specs.Prelude.{◌≡◌, ℕ, List, ◌∷◌, ◌++◌, None, Contains}
+use Rattle.std.specs.List.{flat_map}
 use Rattle.std.proofs.Common.{sym, refl, subst, inl, inr}
 use Rattle.std.proofs.lemmas.List.Elements.{Contains-append_cases, Contains-append_left}
 use Rattle.sf_base.proofs.Elements.{contains-nil, contains-single_of}
-use Rattle.sf_base.proofs.Members.{contains-flat_map_from}
 use Rattle.sf_base.specs.declared.ids.ProcId.{ProcId}
 use Rattle.sf_base.specs.declared.ids.ResId.{ResId}
 use Rattle.sf_base.specs.declared.ids.Var.{Var}
@@ -15,14 +14,13 @@ use Rattle.sf_base.specs.declared.ids.Var.TheVariants.{Shared}
 use Rattle.sf_base.specs.declared.place.Place.{Place}
 use Rattle.sf_base.specs.HeapStore.{Store}
 use Rattle.sf_calls.specs.Around.{IsHeld}
-use Rattle.sf_calls.specs.Breaks.{Breaks, OccursAt}
+use Rattle.sf_calls.specs.Breaks.{Breaks}
 use Rattle.sf_calls.specs.Checked.Lemmas.Broken.{first_broken}
 use Rattle.sf_calls.specs.Checked.Lemmas.Sites.{among_at}
-use Rattle.sf_calls.specs.Conditions.{Calls, Enters, Free, FreeIn, Takes}
+use Rattle.sf_calls.specs.Conditions.{Calls, Enters, Free, Takes}
 use Rattle.sf_calls.specs.declared.breach.Breach.{Breach}
 use Rattle.sf_calls.specs.declared.breach.Breach.TheVariants.{NotHeld, Reentered}
 use Rattle.sf_calls.specs.FirstBreach.{Conditions}
-use Rattle.sf_calls.specs.Outside.{CallsIn, OccursOutside}
 use Rattle.sf_calls.specs.Reaches.{directly, through}
 use Rattle.sf_core.specs.declared.assertion.Test.{Test}
 use Rattle.sf_core.specs.declared.command.Expr.{Expr}
@@ -30,18 +28,12 @@ use Rattle.sf_core.specs.declared.command.Occurrence.{Occurrence}
 use Rattle.sf_core.specs.Machine.Config.{Item, command, Fixed, Frame}
 use Rattle.sf_core.specs.Machine.HasThroughout.{HasThroughout}
 use Rattle.sf_core.specs.Program.Formed.{IsFormed}
-use Rattle.sf_core.specs.Program.Heads.{call_occurrences, expr_occurrences, head_calls, head_occurrences, head_regions, occurrences_at}
+use Rattle.sf_core.specs.Program.Heads.{expr_occurrences, head_calls, head_regions}
 use Rattle.sf_core.specs.Program.Places.{place_of}
-use Rattle.sf_core.specs.Program.Syntax.{Block, Call, Command, with, Procedure, Program}
+use Rattle.sf_core.specs.Program.Syntax.{Block, Call, Command, with, Program}
+use Rattle.sf_safe.proofs.Unheld.{unheld-is_not_free}
 use Rattle.sf_part.specs.Of.{FrameIsOf, HasCalled, IsPassed, Passes, inside}
 use Rattle.sf_part.proofs.Sites.{sites-first}
-
--- what occurs at a command occurs in it itself, or in one of its calls
-occurs-at : (c : Command) (y : Occurrence) → Contains (occurrences_at c) y → OccursAt y c
-occurs-at c y k = elim (Contains-append_cases (head_occurrences c) _ y k) [
-  | inl h ↦ inl h
-  | inr h ↦ inr (contains-flat_map_from call_occurrences (head_calls c) y h)
-]
 
 -- a command that makes a call is no region
 calls-no_region : (c : Command) (d : Call) (r : ResId) → Contains (head_calls c) d
@@ -113,60 +105,9 @@ module _ (p : Program) (formed : IsFormed p) (conditions : Conditions p) (r : Re
     is-at : (y : Occurrence) → y.var ≡ x → y ≡ at_ y.place
     is-at y e = λ j. record { var = e j; place = y.place }
 
-    -- what a procedure doesn't hold, and no region around enters, isn't held
-    unheld : (f : ProcId) → (HasThroughout p f r → ⊥) → (entered : List ResId)
-        → (Contains entered r → ⊥) → IsHeld p f entered r → ⊥
-    unheld f n entered out (inl h) = n h
-    unheld f n entered out (inr c) = out c
-
     -- it isn't free in a procedure that doesn't hold the resource
     pub free-unheld : (f : ProcId) → (HasThroughout p f r → ⊥) → Free p f x → ⊥
-    free-unheld f n (shared_, m) = go m
-      where
-        occurs : (h : Procedure) → slice_get p.procedures f.0 ≡ Some h → OccursOutside x h.body → ⊥
-        occurs h there (s, m, (out, a)) =
-            let y = among_at x (occurrences_at s.command) a in
-            unbroken f (NotHeld y.0.place x) (
-              h,
-              there,
-              (
-                s,
-                m,
-                (
-                  unheld f n (head_regions s.command ++ s.entered) out,
-                  inl (subst (λ (z : Occurrence). OccursAt z s.command) (is-at y.0 y.2)
-                      (occurs-at s.command y.0 y.1)),
-                ),
-              ),
-            )
-
-        calls : (h : Procedure) → slice_get p.procedures f.0 ≡ Some h → (g : ProcId) → Free p g x
-            → CallsIn (Some r) g h.body → ⊥
-        calls h there g free (s, m, (out, (d, k, e))) =
-            unbroken f (NotHeld d.place x) (
-              h,
-              there,
-              (
-                s,
-                m,
-                (
-                  unheld f n (head_regions s.command ++ s.entered)
-                      (λ c. elim (Contains-append_cases (head_regions s.command) s.entered r c) [
-                        | inl h ↦ calls-no_region s.command d r k h
-                        | inr h ↦ out h
-                      ]),
-                  inr (d, k, (refl, subst (λ z. Free p z x) (sym e) free)),
-                ),
-              ),
-            )
-
-        go : FreeIn p f x → ⊥
-        go (directly (h, there, inl o)) =
-            n (inl (record { procedure = h; there = there; variable = i; occurs = inl o }))
-        go (directly (h, there, inr (inl o))) =
-            n (inl (record { procedure = h; there = there; variable = i; occurs = inr o }))
-        go (directly (h, there, inr (inr o))) = occurs h there o
-        go (through g (h, there, c) m) = calls h there g (tt, m) c
+    free-unheld f n = unheld-is_not_free p f r i formed conditions n
 
     -- a procedure that is passed it doesn't take the resource
     passes-not_taken : (g f : ProcId) → Passes p x g f → Takes p f r → ⊥

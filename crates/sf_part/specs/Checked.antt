@@ -23,3 +23,4 @@ pub mod Joined
 pub mod Halving
 pub mod Children
 pub mod Splitting
+pub mod Lemmas

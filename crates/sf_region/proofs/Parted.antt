@@ -112,6 +112,29 @@ module _ (p : Program) (z : Seen) (s : TableId × View) (a : Part) (is : (s, a) 
         right_goes = stays refl;
       })
 
+-- what the three may do at a join, and what it comes to
+pub record Rejoins (p : Program) (z y x : Seen) (s l r : TableId × View) (a one two : Part) : Type 0
+  where
+    pub left : (q : Program) → q ≡ p → MayEnd q s.1 left_turn l.1 one
+    pub right : (q : Program) → q ≡ p → MayEnd q s.1 right_turn r.1 two
+    pub may : numbers (part_of y.1).part.supply ++ numbers (part_of x.1).part.supply ≢ []
+        → AreSeparate (part_of s.1.part) (part_of one) (part_of two)
+        → MayJoin (part_of a) (part_of one) (part_of two)
+    pub seated : (w : View) (b : Part) (event : Event)
+        → Joins p event (part_of a) (part_of one) (part_of two) (part_of b)
+        → w ≡ with_kids (one ∷ two ∷ []) s.1
+        → ((q : Program) → IsPartOf q a → IsPartOf q one → IsPartOf q two
+        → GoesOnIn q (part_of a).part (part_of one).part (part_of two).part → IsPartOf q b)
+        → IsSeated w b
+    pub joins : (b : Part) (event : Event)
+        → Joins p event (part_of a) (part_of one) (part_of two) (part_of b)
+        → Joins p event (part_of z.1) (part_of y.1) (part_of x.1) (part_of b)
+    pub goes : (b : Part) (event : Event)
+        → Joins p event (part_of a) (part_of one) (part_of two) (part_of b)
+        → JoinsGoOn → (before : TimedPart)
+        → HaveGoneOn p before (part_of z.1) (part_of y.1) (part_of x.1)
+        → GoesTo p before (part_of b)
+
 -- the three at a join
 module _ (p : Program) (law : EndedChildrenMayBeTakenBack) (z y x : Seen) (s l r : TableId × View)
     (a one two : Part) (si : (s, a) ≡ z) (li : (l, one) ≡ y) (ri : (r, two) ≡ x)
@@ -138,7 +161,7 @@ module _ (p : Program) (law : EndedChildrenMayBeTakenBack) (z y x : Seen) (s l r
       (subst (λ (q : Seen). Answers p (part_of q.1) Done) (sym li) left_ended)
       (subst (λ (q : Seen). Answers p (part_of q.1) Done) (sym ri) right_ended)
 
-  pub join-left : (q : Program) → q ≡ p → MayEnd q s.1 left_turn l.1 one
+  join-left : (q : Program) → q ≡ p → MayEnd q s.1 left_turn l.1 one
   join-left q same = record {
     near = (
       lh.near.0,
@@ -150,7 +173,7 @@ module _ (p : Program) (law : EndedChildrenMayBeTakenBack) (z y x : Seen) (s l r
     ended = back.left_over;
   }
 
-  pub join-right : (q : Program) → q ≡ p → MayEnd q s.1 right_turn r.1 two
+  join-right : (q : Program) → q ≡ p → MayEnd q s.1 right_turn r.1 two
   join-right q same = record {
     near = (
       rh.near.0,
@@ -162,7 +185,7 @@ module _ (p : Program) (law : EndedChildrenMayBeTakenBack) (z y x : Seen) (s l r
     ended = back.right_over;
   }
 
-  pub join-may : numbers (part_of y.1).part.supply ++ numbers (part_of x.1).part.supply ≢ []
+  join-may : numbers (part_of y.1).part.supply ++ numbers (part_of x.1).part.supply ≢ []
       → AreSeparate (part_of s.1.part) (part_of one) (part_of two)
       → MayJoin (part_of a) (part_of one) (part_of two)
   join-may unit apart =
@@ -186,20 +209,30 @@ module _ (p : Program) (law : EndedChildrenMayBeTakenBack) (z y x : Seen) (s l r
   -- and after it
   module _ (w : View) (b : Part) (event : Event)
       (e : Joins p event (part_of a) (part_of one) (part_of two) (part_of b)) where
-    pub join-seated : w ≡ with_kids (one ∷ two ∷ []) s.1
+    join-seated : w ≡ with_kids (one ∷ two ∷ []) s.1
         → ((q : Program) → IsPartOf q a → IsPartOf q one → IsPartOf q two
         → GoesOnIn q (part_of a).part (part_of one).part (part_of two).part → IsPartOf q b)
         → IsSeated w b
     join-seated view of = seated-joined p s.1 w a b one two event (here-in p z s a si here sh) view
         rest-in e (of p (of-in p z s a si here sh) left-of right-of back.goes_on)
 
-    pub join-joins : Joins p event (part_of z.1) (part_of y.1) (part_of x.1) (part_of b)
+    join-joins : Joins p event (part_of z.1) (part_of y.1) (part_of x.1) (part_of b)
     join-joins = subst (λ (q : Seen × (Seen × Seen)). Joins p event (part_of q.0.1)
         (part_of q.1.0.1) (part_of q.1.1.1) (part_of b)) (λ i. (si i, (li i, ri i))) e
 
-    pub join-goes : JoinsGoOn → (before : TimedPart)
+    join-goes : JoinsGoOn → (before : TimedPart)
         → HaveGoneOn p before (part_of z.1) (part_of y.1) (part_of x.1)
         → GoesTo p before (part_of b)
     unfolding JoinsGoOn
     join-goes on before since = on p event before (part_of z.1) (part_of y.1) (part_of x.1)
         (part_of b) since join-joins
+
+  pub rejoins : Rejoins p z y x s l r a one two
+  rejoins = record {
+    left = join-left;
+    right = join-right;
+    may = join-may;
+    seated = join-seated;
+    joins = join-joins s.1;
+    goes = join-goes s.1;
+  }

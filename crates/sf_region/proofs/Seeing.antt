@@ -8,7 +8,8 @@ use Rattle.sf_core.specs.Machine.Whole.{running}
 use Rattle.sf_core.specs.Program.Formed.{IsFormed}
 use Rattle.sf_core.specs.Program.Syntax.{with, Program}
 use Rattle.sf_frame.specs.Stores.{together}
-use Rattle.sf_part.proofs.Entries.{enter-slots, next-shape}
+use Rattle.sf_part.specs.Checked.Lemmas.Shapes.{next-shape}
+use Rattle.sf_part.proofs.Entries.{enter-slots}
 use Rattle.sf_part.specs.declared.content.Content.{Content}
 use Rattle.sf_part.specs.declared.part.Part.{Part}
 use Rattle.sf_part.specs.Contents.{content_of}

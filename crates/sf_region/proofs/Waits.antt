@@ -27,7 +27,7 @@ use Rattle.sf_core.specs.Machine.SpentWaits.{MayMiss}
 use Rattle.sf_core.specs.Machine.SpentWaits as waits
 use Rattle.sf_core.specs.Machine.Whole.{Part as WholePart, Content as WholeContent, Whole, numbers}
 use Rattle.sf_core.specs.Program.Syntax.{with}
-use Rattle.sf_part.proofs.Entries.{next-shape}
+use Rattle.sf_part.specs.Checked.Lemmas.Shapes.{next-shape}
 use Rattle.sf_part.specs.Checked.Laws.{PartsInAnyOrder}
 use Rattle.sf_part.proofs.Supplies.{count-contains}
 use Rattle.sf_part.specs.Checked.LawsOfWhole.{ConditionsAreSeenAlike, ContentsAreApart, PartsHold, RunningPartsRun}

@@ -107,8 +107,6 @@ impl<'p> Task<'p> {
             × (t.0.1.begun ≡ self.entry.0.1.begun)) }
         ensures fresh { IfOk result (λ t. HasNoMisses t.0.1 t.1) }
     {
-        ended_children_may_be_taken_back();
-        joins_go_on();
         let Task { mut part, mut seat } = self;
         let Task {
             part: one,
@@ -118,6 +116,8 @@ impl<'p> Task<'p> {
             part: two,
             seat: right_seat,
         } = right;
+        ended_children_may_be_taken_back();
+        joins_go_on();
         regions.join(&mut seat, left_seat, &one, right_seat, &two);
         match part.join(one, two) {
             Ok(()) => Ok(Task { part, seat }),

@@ -59,7 +59,6 @@ impl<'p> Task<'p> {
         ensures { Drained self.entry.0.1.begun (part_of self.entry.1).part.task
             (part_of self.entry.1).given }
     {
-        ended_children_may_be_taken_back();
         let Task { seat, .. } = self;
         let Task {
             part: one,
@@ -69,6 +68,7 @@ impl<'p> Task<'p> {
             part: two,
             seat: right_seat,
         } = right;
+        ended_children_may_be_taken_back();
         regions.tell_spent_join(seat, left_seat, &one, right_seat, &two);
     }
 }

@@ -12,7 +12,7 @@ use Rattle.sf_core.specs.Machine.Next.{Next, does, leaves, returns, joins, nothi
 use Rattle.sf_core.specs.Program.Syntax.{Command, assign, look_up, mutate, new, dispose, if, while, call, fork, with}
 use Rattle.sf_machine.specs.Accessing.{IsListed, thing_of}
 use Rattle.sf_replay.specs.Checked.Looks.{IsLook, Seen, is_among, least_in, lesser, meeting, same_thing}
-use Rattle.sf_replay.specs.FirstBad.{Conflicts}
+use Rattle.sf_replay.specs.FirstBad.{Conflicts, WritesWhatMeets}
 use Rattle.sf_replay.specs.Order.{thing_before}
 use Rattle.sf_replay.proofs.ThingOrder.{same-false, same-true, thing-self, thing-through}
 
@@ -236,46 +236,32 @@ pub meets-to : (c : Config) (p q : Path) (l m : Seen) (t : Thing) → IsLook c p
     → Conflicts c p q t
 meets-to c p q l m t a b h = elim h [
   | inl k ↦ elim k [
-    | inl j ↦ elim j [ inl z ↦ absurd z | inr i ↦ writes_reads i.0 i.1 ]
-    | inr i ↦ writes_writes i.0 i.1
+    | inl j ↦ elim j [
+      | inl z ↦ absurd z
+      | inr i ↦ both (inr i.0) (inl i.1) (λ x e y f.
+          inl ((a.accesses.written x e t).0 i.0, inl ((b.accesses.read y f t).0 i.1)))
+    ]
+    | inr i ↦ both (inr i.0) (inr i.1) (λ x e y f.
+        inl ((a.accesses.written x e t).0 i.0, inr ((b.accesses.written y f t).0 i.1)))
   ]
-  | inr i ↦ reads_writes i.0 i.1
+  | inr i ↦ both (inl i.0) (inr i.1) (λ x e y f.
+      inr ((b.accesses.written y f t).0 i.1, inl ((a.accesses.read x e t).0 i.0)))
 ]
   where
-    writes_reads : IsListed l.writes t → IsListed m.reads t → Conflicts c p q t
-    writes_reads i j =
-        let x = listed-enabled c p l t a (inr i) in
-        let y = listed-enabled c q m t b (inl j) in
+    both : IsListed l.reads t ⊎ IsListed l.writes t → IsListed m.reads t ⊎ IsListed m.writes t
+        → ((x : Task) → IsEnabled c p x → (y : Task) → IsEnabled c q y
+        → WritesWhatMeets c.common.store (next x) (next y) t
+        ⊎ WritesWhatMeets c.common.store (next y) (next x) t)
+        → Conflicts c p q t
+    both i j met =
+        let x = listed-enabled c p l t a i in
+        let y = listed-enabled c q m t b j in
         record {
           task = x.0;
           enabled = x.1;
           other_task = y.0;
           other_enabled = y.1;
-          conflict = inl ((a.accesses.written x.0 x.1 t).0 i, inl ((b.accesses.read y.0 y.1 t).0 j));
-        }
-
-    writes_writes : IsListed l.writes t → IsListed m.writes t → Conflicts c p q t
-    writes_writes i j =
-        let x = listed-enabled c p l t a (inr i) in
-        let y = listed-enabled c q m t b (inr j) in
-        record {
-          task = x.0;
-          enabled = x.1;
-          other_task = y.0;
-          other_enabled = y.1;
-          conflict = inl ((a.accesses.written x.0 x.1 t).0 i, inr ((b.accesses.written y.0 y.1 t).0 j));
-        }
-
-    reads_writes : IsListed l.reads t → IsListed m.writes t → Conflicts c p q t
-    reads_writes i j =
-        let x = listed-enabled c p l t a (inl i) in
-        let y = listed-enabled c q m t b (inr j) in
-        record {
-          task = x.0;
-          enabled = x.1;
-          other_task = y.0;
-          other_enabled = y.1;
-          conflict = inr ((b.accesses.written y.0 y.1 t).0 j, inl ((a.accesses.read x.0 x.1 t).0 i));
+          conflict = met x.0 x.1 y.0 y.1;
         }
 
 pub meets-from : (c : Config) (p q : Path) (l m : Seen) (t : Thing) → IsLook c p l → IsLook c q m → Conflicts c p q t

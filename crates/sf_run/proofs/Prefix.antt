@@ -6,7 +6,7 @@ use Rattle.std.proofs.Common.{sym, ap, ◌∙◌, refl, subst, inl, inr, arith}
 use Rattle.sf_base.specs.declared.ids.ResId.{ResId}
 use Rattle.sf_core.proofs.Machine.Tasks.{ended-no_event}
 use Rattle.sf_core.specs.Machine.Alone.{Outcome, finished, spent, waiting, WaitsAlone, event_alone, AloneFrom, Alone}
-use Rattle.sf_core.specs.Machine.Config.{Item, command, leave, Fixed, Frame, Task, runs, Common, Config, put_task, task_at}
+use Rattle.sf_core.specs.Machine.Config.{Item, command, leave, Fixed, Frame, Path, Task, runs, Common, Config, put_task, task_at}
 use Rattle.sf_core.specs.Machine.Enabled.{HasEnded}
 use Rattle.sf_core.specs.Machine.Next.{Next, frame_next, next}
 use Rattle.sf_core.specs.Machine.Numbered.{NumberedFrom}
@@ -38,6 +38,10 @@ new-is ev a b c = λ i. record { task = a i; number = ev.number; at = b i; field
 
 module _ (p : Program) (ev : Event) (s t : Common) (f : Fixed) (below : List Frame) (u : Task)
     (us : List ℕ) (kept : Supply) (task : ev.task ≡ []) where
+  -- the event that a task at that path makes alone with that number
+  abbrev numbered_at : Path → Event
+  numbered_at path = record (event_alone ev.number) { task = path }
+
   command-took : (c : Command) (rest : List Item) → (IsFork c → ⊥) → CommandTakes ev c (has us) kept
       → Does p ev s f below c rest t u
       → (left : List ℕ) × (us ≡ ev.number ∷ left) × (kept ≡ has left)
@@ -60,12 +64,7 @@ module _ (p : Program) (ev : Event) (s t : Common) (f : Fixed) (below : List Fra
     left,
     next-took ev.number us left k,
     is,
-    subst (λ z. Does p (record {
-      task = z;
-      number = ev.number;
-      at = ev.number;
-      fields = (event_alone ev.number).fields;
-    }) s f below (with place r test body) rest t u) task d,
+    subst (λ z. Does p (numbered_at z) s f below (with place r test body) rest t u) task d,
   )
 
   frame-took : (g : Procedure) (todo : List Item) → procedure_at p f.procedure ≡ Some g
@@ -76,12 +75,7 @@ module _ (p : Program) (ev : Event) (s t : Common) (f : Fixed) (below : List Fra
     left,
     next-took ev.number us left takes,
     is,
-    subst (λ z. Goes p (record {
-      task = z;
-      number = ev.number;
-      at = ev.number;
-      fields = (event_alone ev.number).fields;
-    }) s (frame_next f below []) t u) task d,
+    subst (λ z. Goes p (numbered_at z) s (frame_next f below []) t u) task d,
   )
   frame-took g (command c ∷ rest) there n k takes d =
       command-took c rest (command-no_fork p f.procedure g c rest there n k) takes d
@@ -89,12 +83,7 @@ module _ (p : Program) (ev : Event) (s t : Common) (f : Fixed) (below : List Fra
     left,
     next-took ev.number us left takes,
     is,
-    subst (λ z. Goes p (record {
-      task = z;
-      number = ev.number;
-      at = ev.number;
-      fields = (event_alone ev.number).fields;
-    }) s (frame_next f below (leave r ∷ rest)) t u) task d,
+    subst (λ z. Goes p (numbered_at z) s (frame_next f below (leave r ∷ rest)) t u) task d,
   )
 
 frames-took : (p : Program) (ev : Event) (s t : Common) (frames : List Frame) (u : Task) (us : List ℕ)

@@ -51,7 +51,7 @@ use Rattle.sf_region.specs.Waits.{contents_in}
 use Rattle.sf_safe.specs.Checked.LawsOfShares.{entry_of}
 use Rattle.sf_setup.specs.Checked.Told.{IsLogUpTo}
 use Rattle.sf_threads.specs.Checked.Running.{IsRunning}
-use Rattle.sf_trace.proofs.Logs.{log-none}
+use Rattle.sf_trace.specs.Checked.Lemmas.Logs.{log-none}
 use Rattle.sf_run.proofs.Beginnings.{begin-start, kind-one}
 use Rattle.sf_run.proofs.Numbering.{units-length}
 use Rattle.sf_run.specs.Checked.Opened.{IsOpened, IsPrepared}

@@ -14,4 +14,4 @@ pub use laws::{
     arranged_is_set_up, goals_have_shape, programs_have_verdicts, search_exists, search_is_unique,
     taken_tags_have_rows, taken_tags_prove, verdicts_are_unique,
 };
-pub use verdicts::{SearchFault, VerifyFault, search, verify};
+pub use verdicts::{SearchFault, VerifyFault, append, failure, search, verify};

@@ -199,7 +199,7 @@ pub fn verify<'a>(alloc: Global, arranged: &'a Arranged) -> Result<Vec<Tag>, Ver
 
 /// What a search that found no proof means for the program, where so many tags of the file were
 /// used before: with more than a file may have it is too large.
-fn failure<'a>(f: ProcId, fault: SearchFault<'a>, spent: usize) -> VerifyFault<'a>
+pub fn failure<'a>(f: ProcId, fault: SearchFault<'a>, spent: usize) -> VerifyFault<'a>
     requires { spent ≤ FILE_LIMIT }
     ensures { result ≡ failure spent f fault.entry }
 {
@@ -217,7 +217,7 @@ fn failure<'a>(f: ProcId, fault: SearchFault<'a>, spent: usize) -> VerifyFault<'
 }
 
 /// Puts a procedure's tags after those of the procedures before it. An `Err` means out of memory.
-fn append(tags: &mut Vec<Tag>, f: ProcId, found: &[Tag]) -> Result<(), AllocError>
+pub fn append(tags: &mut Vec<Tag>, f: ProcId, found: &[Tag]) -> Result<(), AllocError>
     ensures { Appends result tags.old.items tags.new.items (Procedure f ∷ found.now) }
 {
     tags.push(Tag::Procedure(f))?;

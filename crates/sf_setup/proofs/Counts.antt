@@ -1,7 +1,7 @@
 -- What a task was given and has used, over the events of tasks at its path, below it, and beside
 -- it; and what a supply has at the path of a part.
 -- Names: `counts-LAW` of counted lists, `supply-LAW` of supplies.
-use Rattle.std.specs.Prelude.{◌≡◌, ◌+◌, ℕ, zero, suc, true, false, cond, List, [], ◌∷◌, ◌++◌, length, Option, Some, None}
+use Rattle.std.specs.Prelude.{◌≡◌, ◌+◌, ℕ, zero, suc, true, false, cond, List, [], ◌∷◌, ◌++◌, length, Some, None}
 use Rattle.std.specs.Option.{option_map}
 use Rattle.std.proofs.Common.{ap, ◌∙◌, refl}
 use Rattle.std.proofs.lemmas.List.{append_assoc}
@@ -16,8 +16,9 @@ use Rattle.sf_core.specs.Machine.Supplies.{Supply, has, lent, left_in, put_suppl
 use Rattle.sf_core.specs.Machine.Whole.{Part, numbers, running, waiting}
 use Rattle.sf_core.specs.Program.Syntax.{Program}
 use Rattle.sf_part.proofs.Leads.{supplied-focus}
+use Rattle.sf_part.proofs.Shares.{share-lent, share-units}
 use Rattle.sf_part.proofs.Trees.{entry-here}
-use Rattle.sf_part.specs.Supplied.{units, lent_out, share_in, share_of, Supplied}
+use Rattle.sf_part.specs.Supplied.{share_in, share_of, Supplied}
 use Rattle.sf_setup.proofs.Goes.{AreUnder, under-split}
 use Rattle.sf_spend.specs.Counting.{CountedFrom}
 
@@ -30,23 +31,6 @@ supply-share before after a tree h =
     let (o, s, u) = supplied-focus tree before after a h in
     splits-has_left a.task (share_in a.stand (numbers a.supply)) s
     (entry-here a.task (share_in a.stand (numbers a.supply)))
-
-share-units : (o : Option Supply) (us : List ℕ) → option_map share_of o ≡ Some (units us)
-    → o ≡ Some (has us)
-share-units None us e = absurd (cc)
-share-units (Some (has vs)) us e =
-    let h : units vs ≡ units us = same_Some (units vs) (units us) e in
-    let k : vs ≡ us = cc in
-    ap (λ z. Some (has z)) k
-share-units (Some (lent one two)) us e =
-    let h : lent_out ≡ units us = same_Some lent_out (units us) e in absurd (cc)
-
-share-lent : (o : Option Supply) → option_map share_of o ≡ Some lent_out
-    → (one : Supply) × (two : Supply) × (o ≡ Some (lent one two))
-share-lent None e = absurd (cc)
-share-lent (Some (has us)) e =
-    let h : units us ≡ lent_out = same_Some (units us) lent_out e in absurd (cc)
-share-lent (Some (lent one two)) e = (one, two, refl)
 
 -- that of one that runs has its units
 pub supply-runs : (before after : List Part) (a : Part) (frames : _) (tree : Supply)
@@ -63,21 +47,6 @@ pub supply-waits : (before after : List Part) (a : Part) (frames : _) (tree : Su
 supply-waits before after a frames tree h e =
     share-lent (supply_at a.task tree)
     (supply-share before after a tree h ∙ ap (λ z. Some (share_in z (numbers a.supply))) e)
-
--- and they are at the paths of its children
-pub supply-children : (path : Path) (tree one two : Supply)
-    → supply_at path tree ≡ Some (lent one two)
-    → (supply_at (path ++ left_turn ∷ []) tree ≡ Some one)
-    × (supply_at (path ++ right_turn ∷ []) tree ≡ Some two)
-supply-children [] (has us) one two e = absurd (cc)
-supply-children [] (lent a b) one two e =
-    let h : lent a b ≡ lent one two = same_Some (lent a b) (lent one two) e in
-    let k : a ≡ one = cc in
-    let l : b ≡ two = cc in
-    (ap Some k, ap Some l)
-supply-children (turn ∷ path) (has us) one two e = absurd (cc)
-supply-children (left_turn ∷ path) (lent a b) one two e = supply-children path a one two e
-supply-children (right_turn ∷ path) (lent a b) one two e = supply-children path b one two e
 
 -- below units there is nothing
 pub supply-none : (path : Path) (turn : Turn) (tree : Supply) (us : List ℕ)

@@ -19,7 +19,8 @@ use Rattle.sf_part.specs.Checked.LawsOfWhole.{RunningPartsRun, WaitingPartsWait}
 use Rattle.sf_part.specs.Lent.{Lends}
 use Rattle.sf_part.specs.Supplied.{Supplied}
 use Rattle.sf_part.specs.Timed.{TimedPart}
-use Rattle.sf_setup.proofs.Counts.{child-below, counts-beside, counts-under, spends-anew, supply-children, supply-none, supply-runs, supply-waits, units-length}
+use Rattle.sf_part.proofs.Shares.{supply_at-child}
+use Rattle.sf_setup.proofs.Counts.{child-below, counts-beside, counts-under, spends-anew, supply-none, supply-runs, supply-waits, units-length}
 use Rattle.sf_setup.proofs.Goes.{AreUnder, keeps-given, keeps-path, under-append, under-at, under-going, under-widen}
 use Rattle.sf_setup.proofs.Leading.{leads-shift, leads-shift_two, whole-shift, whole-shift_two}
 use Rattle.sf_setup.specs.Checked.Laws.{DrainedTasksHaveSpentSteps, EventsAloneAreSteps}
@@ -401,7 +402,7 @@ module _ (steps_law : EventsAloneAreSteps) (fork_law : ForksAreSteps) (run_law :
               same_Some two_task (runs []) (sym children.1 ∙ right_at) in
               let (own_left, own_right, lent_is) = supply-waits before (left.part ∷ right.part ∷ after)
               waiting_one.part kept right_segment.rest right_segment.supplied waits_with in
-              let below = supply-children fork_path right_segment.rest own_left own_right lent_is in
+              let below = supply_at-child fork_path right_segment.rest own_left own_right lent_is in
               let left_supply : supply_at (fork_path ++ left_turn ∷ []) right_segment.rest
               ≡ Some (has (numbers left.part.supply)) =
               subst (λ z. supply_at z right_segment.rest ≡ Some (has (numbers left.part.supply)))

@@ -17,7 +17,7 @@ use Rattle.sf_core.specs.Program.Init.{sets_up}
 use Rattle.sf_core.specs.Program.Syntax.{fork, Program}
 use Rattle.sf_frame.specs.Checked.Nexts.{frames_with}
 use Rattle.sf_part.proofs.Beside.{takes-fork, takes-join, takes-one}
-use Rattle.sf_part.proofs.Entries.{next-shape}
+use Rattle.sf_part.specs.Checked.Lemmas.Shapes.{next-shape}
 use Rattle.sf_part.specs.Checked.LawsOfSettingUp.{IsSettingUp, SettingUpGoesOn}
 use Rattle.sf_part.specs.Going.{GoesTo, stays as to_stays, steps as to_steps, forks as to_forks}
 use Rattle.sf_part.specs.Of.{frames_in}

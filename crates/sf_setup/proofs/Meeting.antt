@@ -12,7 +12,7 @@ use Rattle.sf_core.specs.Machine.Whole.{Content, Part as WholePart, Whole, numbe
 use Rattle.sf_core.specs.Program.Syntax.{fork, Program}
 use Rattle.sf_frame.specs.Checked.Nexts.{frames_with}
 use Rattle.sf_own.specs.Checked.Accepted.{IsAccepted}
-use Rattle.sf_part.proofs.Entries.{next-shape}
+use Rattle.sf_part.specs.Checked.Lemmas.Shapes.{next-shape}
 use Rattle.sf_part.specs.Answers.{Answers}
 use Rattle.sf_part.specs.Checked.Laws.{ForksAreSteps}
 use Rattle.sf_part.specs.Checked.LawsOfGoing.{EndedChildrenMayBeTakenBack, MayBeTakenBack}

@@ -22,7 +22,7 @@ use Rattle.sf_core.specs.Program.Init.{sets_up}
 use Rattle.sf_core.specs.Program.Syntax.{Call, Command, fork, with, Program}
 use Rattle.sf_frame.specs.Checked.Nexts.{frames_with}
 use Rattle.sf_own.specs.Checked.Safe.{IsSafe, own_of}
-use Rattle.sf_part.proofs.Entries.{next-shape}
+use Rattle.sf_part.specs.Checked.Lemmas.Shapes.{next-shape}
 use Rattle.sf_part.proofs.Orders.{has-called}
 use Rattle.sf_part.proofs.Sites.{sites-first}
 use Rattle.sf_part.proofs.Unheld.{held-called, held-entered}

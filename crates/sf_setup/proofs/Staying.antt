@@ -7,6 +7,7 @@ use Rattle.std.proofs.Math.Nat.{mul-le-mul_right, pow-succ'}
 use Rattle.std.proofs.Math.Pow.{pow_mono}
 use Rattle.sf_base.specs.declared.ids.ResId.{ResId}
 use Rattle.sf_base.specs.declared.limits.TheConstants.{STEPS, TURNS}
+use Rattle.sf_base.specs.declared.path.Turn.{Turn}
 use Rattle.sf_base.specs.declared.path.Turn.TheVariants.{Left as left_turn, Right as right_turn}
 use Rattle.sf_base.specs.declared.value.Value.{Value}
 use Rattle.sf_core.specs.Machine.Step.{Event}
@@ -272,31 +273,30 @@ module _ (laws : RunLaws) (p : Program) (accepted : IsAccepted p) where
     waits_at : (part_of waits).part.task ≡ (part_of a).part.task
     waits_at = sym (x.forks.children.task) ∙ x.forks.acts.task
 
+    -- a child stands one turn further down, where half of the units have room
+    child-length : (child : TimedPart) (turn : Turn)
+        → child.part.task ≡ (part_of waits).part.task ++ turn ∷ []
+        → length child.part.task ≡ length (part_of a).part.task + 1
+    child-length child turn is = ap length (is ∙ ap (λ z. z ++ turn ∷ []) waits_at)
+        ∙ length-append (part_of a).part.task (turn ∷ [])
+
+    child-room : (child : TimedPart) → length child.part.task ≡ length (part_of a).part.task + 1
+        → 2 * units_of child ≤ units_of (part_of a)
+        → units_of child * 2 ^ length child.part.task ≤ STEPS
+    child-room child deeper half = subst (λ z. units_of child * 2 ^ z ≤ STEPS) (sym deeper)
+        (half-room (units_of child) (units_of (part_of a)) (length (part_of a).part.task) half
+        h.room)
+
     left-length : length (part_of left).part.task ≡ length (part_of a).part.task + 1
-    left-length =
-        ap length (x.forks.children.left_one.task ∙ ap (λ z. z ++ left_turn ∷ []) waits_at)
-        ∙ length-append (part_of a).part.task (left_turn ∷ [])
+    left-length = child-length (part_of left) left_turn x.forks.children.left_one.task
 
     right-length : length (part_of right).part.task ≡ length (part_of a).part.task + 1
-    right-length =
-        ap length (x.forks.children.right_one.task ∙ ap (λ z. z ++ right_turn ∷ []) waits_at)
-        ∙ length-append (part_of a).part.task (right_turn ∷ [])
+    right-length = child-length (part_of right) right_turn x.forks.children.right_one.task
 
-    left-room : units_of (part_of left) * 2 ^ length (part_of left).part.task ≤ STEPS
+    halves : (2 * units_of (part_of left) ≤ units_of (part_of a))
+        × (2 * units_of (part_of right) ≤ units_of (part_of a))
     unfolding ForksHalve
-    left-room =
-        subst (λ z. units_of (part_of left) * 2 ^ z ≤ STEPS) (sym left-length)
-        (half-room (units_of (part_of left)) (units_of (part_of a)) (length (part_of a).part.task)
-        (laws.halve p event (part_of a) (part_of waits) (part_of left) (part_of right) x.forks).0
-        h.room)
-
-    right-room : units_of (part_of right) * 2 ^ length (part_of right).part.task ≤ STEPS
-    unfolding ForksHalve
-    right-room =
-        subst (λ z. units_of (part_of right) * 2 ^ z ≤ STEPS) (sym right-length)
-        (half-room (units_of (part_of right)) (units_of (part_of a)) (length (part_of a).part.task)
-        (laws.halve p event (part_of a) (part_of waits) (part_of left) (part_of right) x.forks).1
-        h.room)
+    halves = laws.halve p event (part_of a) (part_of waits) (part_of left) (part_of right) x.forks
 
     within-left : IsWithin (part_of left).part
     unfolding ForksAreSteps PartsInAnyOrder
@@ -339,7 +339,7 @@ module _ (laws : RunLaws) (p : Program) (accepted : IsAccepted p) where
         quiet = inr (left-below p accepted.formed accepted.conditions h.owed event (part_of a)
             (part_of waits) (part_of left) (part_of right) x h.of.is h.safe h.quiet safes.left
             safes.first left_of.is);
-        room = left-room;
+        room = child-room (part_of left) left-length halves.0;
       };
       right = record {
         of = right_of;
@@ -349,7 +349,7 @@ module _ (laws : RunLaws) (p : Program) (accepted : IsAccepted p) where
         quiet = inr (right-below p accepted.formed accepted.conditions h.owed event (part_of a)
             (part_of waits) (part_of left) (part_of right) x h.of.is h.safe h.quiet safes.right
             safes.second right_of.is);
-        room = right-room;
+        room = child-room (part_of right) right-length halves.1;
       };
       left_past = child-past p (part_of left).part x.left left_of.is x.left_runs;
       right_past = child-past p (part_of right).part x.right right_of.is x.right_runs;

@@ -28,7 +28,7 @@ use Rattle.sf_setup.proofs.Leading.{whole-shift}
 use Rattle.sf_setup.specs.Checked.Laws.{SettingUpIsTold}
 use Rattle.sf_setup.specs.Checked.Told.{IsLogUpTo}
 use Rattle.sf_setup.specs.Going.{GoesBy, stays, steps, forks}
-use Rattle.sf_trace.proofs.Logs.{Each, each-append, each-none, each-one, log-append, log-none, log-one}
+use Rattle.sf_trace.specs.Checked.Lemmas.Logs.{Each, each-append, each-none, each-one, log-append, log-none, log-one}
 use Rattle.sf_trace.specs.Checked.Laws.{EqualWeightsPermute, ParallelCallsFork, PrivateActsMeetNobody, RunsHaveTraces, TracesAreRuns, TracesAreUnique}
 use Rattle.sf_trace.specs.Logs.{FreesAll, IsLogOf, Precedes, Timed, acts_in, entry_of}
 use Rattle.sf_trace.specs.Trace.{Touches}

@@ -20,9 +20,9 @@ ghost use Rattle.sf_setup.specs.Checked.Alone.{
 };
 
 use crate::alone::run_alone;
-use crate::crossing::{arranged_programs_are_shared, parts_are_sent};
 use crate::run_laws::run_laws;
 use crate::stop::SetUpStop;
+use sf_crossing::{arranged_programs_are_shared, parts_are_sent};
 use sf_io::{Gate, Point};
 use sf_part::{Part, PartFault};
 use sf_precise::Arranged;

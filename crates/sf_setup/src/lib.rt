@@ -5,7 +5,7 @@
 //! - `alone`: a task from where it stands to its end, or to the return of `init`; `forks`: its
 //!   parallel calls, whose children run on threads of their own.
 //! - `laws`: how a task goes on alone, and what that comes to in each whole that it belongs to.
-//! - `run_laws`: what they need to know of parts; `crossing`: what may go to other threads.
+//! - `run_laws`: what they need to know of parts.
 //!
 //! `specs/` says by which events a task goes on alone (Going), how one comes to have no unit left
 //! (Draining), where such a run begins (Fresh), what is so once the resources are set up (SetUp), and
@@ -13,7 +13,6 @@
 #![tactic(auto)]
 
 mod alone;
-mod crossing;
 mod forks;
 pub mod laws;
 mod run_laws;

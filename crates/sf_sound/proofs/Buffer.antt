@@ -39,7 +39,7 @@ use Rattle.sf_precise.specs.Annotations.{annotations_in}
 use Rattle.sf_precise.specs.Checked.Laws.{OrderingExists}
 use Rattle.sf_precise.specs.Order.{IsOrderOf, IsOrdering}
 use Rattle.sf_sound.proofs.AsWritten.{IsAsWritten, procedure-proved}
-use Rattle.sf_sound.proofs.SmallPrograms.{cell-determined, cell-no_shared, cell-ordered, cell-within, emp-determined, emp-no_var, emp-ordered, emp-within, everywhere, of-three, set-nothing, set-of_each, set-single, bare-unless, none-twice}
+use Rattle.sf_sound.proofs.SmallPrograms.{cell-determined, cell-no_shared, cell-ordered, cell-within, emp-determined, emp-no_var, emp-ordered, emp-within, everywhere, of-three, set-nothing, set-of_each, set-single, none-twice, small-within}
 use Rattle.sf_sound.proofs.Races.{sound-by}
 use Rattle.sf_sound.specs.Checked.ExamplesOfRegions.{BufferIsSound, buf, buffer, buffer_tags, buffered, c, full, get, gets_y, no_scope, passes_on, put, puts_x}
 use Rattle.sf_sound.specs.Proofs.{ProofsAreSound}
@@ -78,40 +78,19 @@ inv-within =
 
 put-within : ProcedureWithin buffer put
 put-within =
-    let few : 1 ≤ 256 = omega arith in
-    let named : 1 ≤ 1 = omega arith in
-    let primed : 1 ≤ 2 = omega arith in
     let resource : 0 < 1 = omega arith in
     let first : 0 < 2 = omega arith in
     let second : 1 < 2 = omega arith in
-    let nesting : 2 ≤ 64 = omega arith in record {
-      declared_count = few;
-      declared = named;
-      primed = primed;
-      pre = cell-within _ _ (own_one 0) resource;
-      post = emp-within _ _;
-      body = ((resource, (second, tt), ((first, resource), ((second, tt), tt))), tt);
-      depth = nesting;
-      init = bare-unless _ refl;
-    }
+    small-within buffer put refl refl refl refl refl (cell-within _ _ (own_one 0) resource) (emp-within _ _)
+    ((resource, (second, tt), ((first, resource), ((second, tt), tt))), tt)
 
 get-within : ProcedureWithin buffer get
 get-within =
-    let few : 1 ≤ 256 = omega arith in
-    let named : 1 ≤ 1 = omega arith in
     let resource : 0 < 1 = omega arith in
     let first : 0 < 2 = omega arith in
     let second : 1 < 2 = omega arith in
-    let nesting : 2 ≤ 64 = omega arith in record {
-      declared_count = few;
-      declared = named;
-      primed = named;
-      pre = emp-within _ _;
-      post = cell-within _ _ (own_one 0) resource;
-      body = ((resource, (second, tt), (((resource, λ l. resource), first), ((second, tt), tt))), tt);
-      depth = nesting;
-      init = bare-unless _ refl;
-    }
+    small-within buffer get refl refl refl refl refl (emp-within _ _) (cell-within _ _ (own_one 0) resource)
+    ((resource, (second, tt), (((resource, λ l. resource), first), ((second, tt), tt))), tt)
 
 puts-within : CallWithin buffer passes_on puts_x
 puts-within =
@@ -134,20 +113,10 @@ gets-within =
 
 main-within : ProcedureWithin buffer passes_on
 main-within =
-    let few : 2 ≤ 256 = omega arith in
-    let named : 2 ≤ 2 = omega arith in
     let first : 0 < 2 = omega arith in
     let second : 1 < 2 = omega arith in
-    let nesting : 1 ≤ 64 = omega arith in record {
-      declared_count = few;
-      declared = named;
-      primed = named;
-      pre = emp-within _ _;
-      post = emp-within _ _;
-      body = ((first, λ l. absurd (omega (arith, l))), ((puts-within, gets-within), (second, tt)));
-      depth = nesting;
-      init = bare-unless _ refl;
-    }
+    small-within buffer passes_on refl refl refl refl refl (emp-within _ _) (emp-within _ _)
+    ((first, λ l. absurd (omega (arith, l))), ((puts-within, gets-within), (second, tt)))
 
 resources-within : (k : ℕ) (r : Resource) → slice_get buffer.resources k ≡ Some r
     → AssertionWithin buffer.fields (IsOfResource k (length r.variables)) r.invariant

@@ -11,7 +11,6 @@ use Rattle.sf_base.specs.declared.ids.ProcId.{ProcId}
 use Rattle.sf_base.specs.declared.ids.ResId.{ResId}
 use Rattle.sf_base.specs.declared.ids.Var.{Var}
 use Rattle.sf_base.specs.declared.ids.Var.TheVariants.{Own, Shared}
-use Rattle.sf_calls.specs.Assigned.{MayChange}
 use Rattle.sf_calls.specs.Around.{Shares}
 use Rattle.sf_calls.specs.Conditions.{Enters, Free, Mentions, Takes}
 use Rattle.sf_calls.specs.FirstBreach.{Conditions}
@@ -36,7 +35,7 @@ use Rattle.sf_rules.specs.Setting.{IsSettingOf, Setting}
 use Rattle.sf_sym.specs.declared.tag.Tag.TheVariants as t
 use Rattle.sf_sound.proofs.AsWritten.{IsAsWritten, procedure-proved}
 use Rattle.sf_sound.proofs.Races.{sound-by}
-use Rattle.sf_sound.proofs.SmallPrograms.{alone, everywhere, no_scope, none-named, of-two, set-nothing, set-of_each, bare-unless, none-twice}
+use Rattle.sf_sound.proofs.SmallPrograms.{alone, everywhere, no_scope, none-named, of-two, set-nothing, set-of_each, bare-formed, by_value-unshared, small-within}
 use Rattle.sf_sound.specs.Checked.Examples.{PairIsSound, at_both, at_x, clear, clears, clears_both, hd, pair, pair_tags, place, x, y}
 use Rattle.sf_rules.specs.Proving.{Proves}
 use Rattle.sf_sound.specs.Proofs.{ProofsAreSound}
@@ -152,13 +151,8 @@ are-sets = record {
 }
 
 -- the conditions on variables
-unchanged : (e : Expr) (n : ℕ) → MayChange pair (clear e) (Own n) → ⊥
-unchanged e n (inl a) = a
-unchanged e n (inr w) = w.0
-
 unshared : (e d : Expr) (n : ℕ) → Shares pair (clear e) (clear d) (Own n) → ⊥
-unshared e d n (inl s) = unchanged e n s.0
-unshared e d n (inr s) = unchanged d n s.0
+unshared e d n = by_value-unshared pair (clear e) (clear d) refl refl n
 
 conditions : Conditions pair
 conditions = ((λ b. b), ((λ b. b), ((λ b. b), (unshared x y 0, (unshared x y 1, tt)))))
@@ -198,19 +192,8 @@ none-after k g l = let e : ⊥ = omega arith in absurd e
 clears-within : ProcedureWithin pair clears
 clears-within =
     let first : 0 < 1 = omega arith in
-    let nesting : 1 ≤ 64 = omega arith in
-    let few : 1 ≤ 256 = omega arith in
-    let named : 1 ≤ 1 = omega arith in
-    let no_primed : 1 ≤ 2 = omega arith in record {
-      declared_count = few;
-      declared = named;
-      primed = no_primed;
-      pre = within-x clears [] first tt;
-      post = within-x clears ((hd, Known Nil) ∷ []) first (first, tt, none-after, tt);
-      body = ((first, first, tt), tt);
-      depth = nesting;
-      init = bare-unless _ refl;
-    }
+    small-within pair clears refl refl refl refl refl (within-x clears [] first tt)
+    (within-x clears ((hd, Known Nil) ∷ []) first (first, tt, none-after, tt)) ((first, first, tt), tt)
 
 call-within : (e : Expr) → ExprWithin (IsInBody pair clears_both) e → CallWithin pair clears_both (clear e)
 call-within e w = record {
@@ -225,33 +208,16 @@ both-within =
     let first : 0 < 2 = omega arith in
     let second : 1 < 2 = omega arith in
     let field : 0 < 1 = omega arith in
-    let nesting : 1 ≤ 64 = omega arith in
-    let few : 2 ≤ 256 = omega arith in
-    let named : 2 ≤ 2 = omega arith in
-    let no_primed : 2 ≤ 4 = omega arith in record {
-      declared_count = few;
-      declared = named;
-      primed = no_primed;
-      pre = within-both clears_both [] second tt;
-      post = within-both clears_both ((hd, Known Nil) ∷ []) second (field, tt, none-after, tt);
-      body = ((call-within x first, call-within y second), tt);
-      depth = nesting;
-      init = bare-unless _ refl;
-    }
+    small-within pair clears_both refl refl refl refl refl (within-both clears_both [] second tt)
+    (within-both clears_both ((hd, Known Nil) ∷ []) second (field, tt, none-after, tt))
+    ((call-within x first, call-within y second), tt)
 
 others : (k : ℕ) (g : Procedure) → slice_get pair.procedures k ≡ Some g → is_init g ≡ false
 others = of-two (λ g. is_init g ≡ false) clears clears_both refl refl
 
 formed : IsFormed pair
-formed = record {
-  procedures = of-two (ProcedureWithin pair) clears clears_both clears-within both-within;
-  resources = λ k r e. absurd (none-some r e);
-  procedure_count = let e : 2 ≤ 1000 = omega arith in e;
-  resource_count = let e : 0 ≤ 64 = omega arith in e;
-  field_count = let e : 1 ≤ 16 = omega arith in e;
-  variables = let e : 0 ≤ 256 = omega arith in e;
-  one_init = none-twice pair.procedures others;
-}
+formed =
+    bare-formed pair refl (of-two (ProcedureWithin pair) clears clears_both clears-within both-within) refl refl others
 
 -- its annotations are determined, and are in order as they stand
 abbrev nil : List (FieldId × Operand Expr)

@@ -36,7 +36,7 @@ use Rattle.sf_rules.specs.Proving.{Proves}
 use Rattle.sf_rules.specs.Setting.{IsSettingOf, Setting}
 use Rattle.sf_sound.proofs.AsWritten.{IsAsWritten, procedure-proved}
 use Rattle.sf_sound.proofs.Races.{sound-by}
-use Rattle.sf_sound.proofs.SmallPrograms.{bare-unless, cell-determined, cell-ordered, cell-within, emp-determined, emp-no_var, emp-ordered, emp-within, everywhere, of-two, set-nothing, set-of_each, set-single}
+use Rattle.sf_sound.proofs.SmallPrograms.{cell-determined, cell-ordered, cell-within, emp-determined, emp-no_var, emp-ordered, emp-within, everywhere, of-two, set-nothing, set-of_each, set-single, small-within}
 use Rattle.sf_sound.specs.Checked.ExamplesOfInit.{SetUpIsSound, UnmetInvariantsHaveNoProof, set_up_tags}
 use Rattle.sf_sound.specs.Proofs.{ProofsAreSound}
 use Rattle.sf_sym.specs.declared.tag.Tag.TheVariants as t
@@ -44,18 +44,7 @@ use Rattle.sf_sym.specs.declared.tag.Tag.TheVariants as t
 -- WITH ANY BODY its form
 skip-within : (body : Block) → ProcedureWithin (set_up_by (init_with body)) skip
 skip-within body =
-    let few : 0 ≤ 256 = omega arith in
-    let named : 0 ≤ 0 = omega arith in
-    let nesting : 0 ≤ 64 = omega arith in record {
-      declared_count = few;
-      declared = named;
-      primed = named;
-      pre = emp-within _ _;
-      post = emp-within _ _;
-      body = tt;
-      depth = nesting;
-      init = bare-unless _ refl;
-    }
+    small-within (set_up_by (init_with body)) skip refl refl refl refl refl (emp-within _ _) (emp-within _ _) tt
 
 init-within : (body : Block) → BlockWithin (set_up_by (init_with body)) (init_with body) body
     → block_depth body ≤ 64 → ProcedureWithin (set_up_by (init_with body)) (init_with body)

@@ -35,7 +35,7 @@ use Rattle.sf_precise.specs.Annotations.{annotations_in}
 use Rattle.sf_precise.specs.Checked.Laws.{OrderingExists}
 use Rattle.sf_precise.specs.Order.{IsOrdering}
 use Rattle.sf_sound.proofs.AsWritten.{IsAsWritten, procedure-proved}
-use Rattle.sf_sound.proofs.SmallPrograms.{emp-determined, emp-no_var, emp-ordered, emp-within, everywhere, of-three, set-nothing, set-of_each, bare-unless, none-twice}
+use Rattle.sf_sound.proofs.SmallPrograms.{emp-determined, emp-no_var, emp-ordered, emp-within, everywhere, of-three, set-nothing, set-of_each, bare-formed, small-within}
 use Rattle.sf_sound.proofs.Races.{forks-deep, none-there, one-kept, one-no_more, race-of, race-unsound}
 use Rattle.sf_sound.specs.Checked.ExamplesOfRaces.{RacesAtFork, SharedWritersRace, passes_x, sets, sets_too, sets_twice, shared_writers, shared_writers_tags}
 use Rattle.sf_rules.specs.Proving.{Proves}
@@ -46,19 +46,9 @@ use Rattle.sf_sym.specs.declared.tag.Tag.TheVariants as t
 sets-within : (name : List ℕ) → is_init (record sets { name = name }) ≡ false
     → ProcedureWithin shared_writers (record sets { name = name })
 sets-within name other =
-    let few : 1 ≤ 256 = omega arith in
-    let named : 1 ≤ 1 = omega arith in
     let first : 0 < 1 = omega arith in
-    let nesting : 1 ≤ 64 = omega arith in record {
-      declared_count = few;
-      declared = named;
-      primed = named;
-      pre = emp-within _ _;
-      post = emp-within _ _;
-      body = (((first, λ l. first), tt), tt);
-      depth = nesting;
-      init = bare-unless _ other;
-    }
+    small-within shared_writers (record sets { name = name }) refl refl refl refl other (emp-within _ _)
+    (emp-within _ _) (((first, λ l. first), tt), tt)
 
 passes-within : (f : ProcId) → HasCounts (slice_get shared_writers.procedures f.0) (passes_x f)
     → sets_up shared_writers f ≡ false → CallWithin shared_writers sets_twice (passes_x f)
@@ -73,33 +63,16 @@ passes-within f counts other =
 
 twice-within : ProcedureWithin shared_writers sets_twice
 twice-within =
-    let few : 1 ≤ 256 = omega arith in
-    let named : 1 ≤ 1 = omega arith in
-    let nesting : 1 ≤ 64 = omega arith in record {
-      declared_count = few;
-      declared = named;
-      primed = named;
-      pre = emp-within _ _;
-      post = emp-within _ _;
-      body = ((passes-within (record { 0 = 0 }) (refl, refl) refl, passes-within (record { 0 = 1 }) (refl, refl) refl), tt);
-      depth = nesting;
-      init = bare-unless _ refl;
-    }
+    small-within shared_writers sets_twice refl refl refl refl refl (emp-within _ _) (emp-within _ _)
+    ((passes-within (record { 0 = 0 }) (refl, refl) refl, passes-within (record { 0 = 1 }) (refl, refl) refl), tt)
 
 others : (k : ℕ) (g : Procedure) → slice_get shared_writers.procedures k ≡ Some g → is_init g ≡ false
 others = of-three (λ g. is_init g ≡ false) sets sets_too sets_twice refl refl refl
 
 formed : IsFormed shared_writers
-formed = record {
-  procedures = of-three (ProcedureWithin shared_writers) sets sets_too sets_twice
-      (sets-within (codes "f") refl) (sets-within (codes "g") refl) twice-within;
-  resources = λ k r e. absurd (none-some r e);
-  procedure_count = let e : 3 ≤ 1000 = omega arith in e;
-  resource_count = let e : 0 ≤ 64 = omega arith in e;
-  field_count = let e : 0 ≤ 16 = omega arith in e;
-  variables = let e : 0 ≤ 256 = omega arith in e;
-  one_init = none-twice shared_writers.procedures others;
-}
+formed =
+    bare-formed shared_writers refl (of-three (ProcedureWithin shared_writers) sets sets_too sets_twice
+    (sets-within (codes "f") refl) (sets-within (codes "g") refl) twice-within) refl refl others
 
 determined : All (λ (a : Assertion). Determined a.level) (annotations_in shared_writers)
 determined =

@@ -1,10 +1,11 @@
 -- The contracts of small programs: nothing, and one cell. They are well-formed, determined, in
 -- order as they stand, and mention no variable of a resource. And sets with no member or one.
--- Names: `emp-LAW` and `cell-LAW` speak of the two contracts, `set-LAW` of sets.
+-- Names: `emp-LAW` and `cell-LAW` speak of the two contracts, `by_value-LAW` of calls, `set-LAW` of sets.
 use Rattle.sf_core.specs.Program.Init.{IsBare, is_init}
-use Rattle.std.specs.Prelude.{◌≡◌, ◌≤◌, ◌<◌, ◌+◌, ℕ, zero, suc, List, [], ◌∷◌, Some, replicate, slice_get, false, true}
-use Rattle.std.specs.List.{All, IsDistinct}
+use Rattle.std.specs.Prelude.{◌≡◌, ◌≤◌, ◌<◌, ◌+◌, ℕ, zero, suc, List, [], ◌∷◌, Some, length, nat_lt, replicate, slice_get, false, true}
+use Rattle.std.specs.List.{All, IsDistinct, sum_by}
 use Rattle.std.proofs.Common.{ap, arith, inl, inr, refl, subst, sym, ◌∙◌, true≢false}
+use Rattle.std.proofs.lemmas.Bool.Decides.{nat_tests}
 use Rattle.std.proofs.lemmas.List.Elements.{All-cons, All-nil}
 use Rattle.std.proofs.lemmas.List.{length-replicate}
 use Rattle.std.proofs.lemmas.Option.{none-some}
@@ -13,6 +14,10 @@ use Rattle.sf_base.specs.declared.ids.ProcId.{ProcId}
 use Rattle.sf_base.specs.declared.ids.ResId.{ResId}
 use Rattle.sf_base.specs.declared.ids.Var.{Var}
 use Rattle.sf_base.specs.declared.ids.Var.TheVariants.{Own, Shared}
+use Rattle.sf_base.specs.declared.limits.TheConstants.{FIELDS, NESTING, OWN_VARIABLES, PROCEDURES, RESOURCES, RESOURCE_VARIABLES}
+use Rattle.sf_calls.specs.Around.{Shares}
+use Rattle.sf_calls.specs.Assigned.{MayChange}
+use Rattle.sf_calls.specs.Outside.{IsAmong}
 use Rattle.sf_calls.specs.Reaches.{Reaches, directly, through}
 use Rattle.sf_calls.specs.Sets.{IsFamily, IsSetOf}
 use Rattle.sf_core.specs.Assertions.Determined.{Determined, plain, take, all_taken}
@@ -22,8 +27,8 @@ use Rattle.sf_core.specs.declared.assertion.Scope.{Scope}
 use Rattle.sf_core.specs.declared.command.Expr.{Expr}
 use Rattle.sf_core.specs.declared.command.Occurrence.{Occurrence}
 use Rattle.sf_core.specs.Checked.Machine.Examples.{emp, one_cell_at, own_one, at_own}
-use Rattle.sf_core.specs.Program.Formed.{AssertionWithin, ExprWithin}
-use Rattle.sf_core.specs.Program.Syntax.{Procedure}
+use Rattle.sf_core.specs.Program.Formed.{AssertionWithin, BlockWithin, ExprWithin, IsFormed, IsParameter, ProcedureWithin, block_depth}
+use Rattle.sf_core.specs.Program.Syntax.{Call, Procedure, Program, Resource}
 use Rattle.sf_precise.specs.Order.{IsOrderOf}
 
 -- of each of two procedures, and of each of three
@@ -46,6 +51,54 @@ pub none-twice : (gs : List Procedure) → ((k : ℕ) (g : Procedure) → slice_
     → (j k : ℕ) (f g : Procedure) → slice_get gs j ≡ Some f → slice_get gs k ≡ Some g → is_init f ≡ true
     → is_init g ≡ true → j ≡ k
 none-twice gs n j k f g a b e i = absurd (true≢false (sym e ∙ n j f a))
+
+-- a procedure of another name is formed, where what is counted of it is within the limits
+not-above : (m n : ℕ) → nat_lt m n ≡ false → n ≤ m
+not-above m n e = grind (arith, nat_tests)
+
+pub small-within : (p : Program) (f : Procedure) → nat_lt OWN_VARIABLES (f.references + f.values + f.locals) ≡ false
+    → nat_lt (length f.names) (f.references + f.values + f.locals) ≡ false
+    → nat_lt (f.references + f.values + f.locals + f.values) (length f.names) ≡ false
+    → nat_lt NESTING (block_depth f.body) ≡ false → is_init f ≡ false
+    → AssertionWithin p.fields (IsParameter p f) f.pre → AssertionWithin p.fields (IsParameter p f) f.post
+    → BlockWithin p f f.body → ProcedureWithin p f
+small-within p f few named primed nesting other pre post body = record {
+  declared_count = not-above OWN_VARIABLES (f.references + f.values + f.locals) few;
+  declared = not-above (length f.names) (f.references + f.values + f.locals) named;
+  primed = not-above (f.references + f.values + f.locals + f.values) (length f.names) primed;
+  pre = pre;
+  post = post;
+  body = body;
+  depth = not-above NESTING (block_depth f.body) nesting;
+  init = bare-unless f other;
+}
+
+-- a program with no resource, none of whose procedures sets any up
+pub bare-formed : (p : Program) → p.resources ≡ []
+    → ((k : ℕ) (f : Procedure) → slice_get p.procedures k ≡ Some f → ProcedureWithin p f)
+    → nat_lt PROCEDURES (length p.procedures) ≡ false → nat_lt FIELDS (length p.fields) ≡ false
+    → ((k : ℕ) (g : Procedure) → slice_get p.procedures k ≡ Some g → is_init g ≡ false) → IsFormed p
+bare-formed p none procedures few fields others = record {
+  procedures = procedures;
+  resources = λ k r e. absurd (none-some r (subst (λ (rs : List Resource). slice_get rs k ≡ Some r) none e));
+  procedure_count = not-above PROCEDURES (length p.procedures) few;
+  resource_count = subst (λ (rs : List Resource). length rs ≤ RESOURCES) (sym none) (not-above RESOURCES 0 refl);
+  field_count = not-above FIELDS (length p.fields) fields;
+  variables =
+      subst (λ (rs : List Resource). sum_by (λ r. length r.variables) rs ≤ RESOURCE_VARIABLES) (sym none)
+      (not-above RESOURCE_VARIABLES 0 refl);
+  one_init = none-twice p.procedures others;
+}
+
+-- a call without references changes no variable of its caller's own, so two such share none
+by_value-unchanged : (p : Program) (c : Call) → c.references ≡ [] → (i : ℕ) → MayChange p c (Own i) → ⊥
+by_value-unchanged p c none i (inl a) = subst (λ (xs : List Occurrence). IsAmong (Own i) xs) none a
+by_value-unchanged p c none i (inr w) = w.0
+
+pub by_value-unshared : (p : Program) (c d : Call) → c.references ≡ [] → d.references ≡ [] → (i : ℕ)
+    → Shares p c d (Own i) → ⊥
+by_value-unshared p c d left right i (inl s) = by_value-unchanged p c left i s.0
+by_value-unshared p c d left right i (inr s) = by_value-unchanged p d right i s.0
 
 -- the scope that makes no existential, alone
 abbrev pub no_scope : Scope

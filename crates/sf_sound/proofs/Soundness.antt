@@ -16,7 +16,8 @@ use Rattle.sf_rules.specs.Shape.{IsShaped}
 use Rattle.sf_safe.specs.Checked.LocalSafe.{LocallySafeBodiesAreSafe, LocallySafeProgramsAreSound}
 use Rattle.sf_sound.proofs.Beginnings.{body-safe}
 use Rattle.sf_sound.proofs.Bodies.{IsSane}
-use Rattle.sf_sound.proofs.Table.{RowLaws, row-claims}
+use Rattle.sf_rules.specs.Checked.LawsOfRows.{RowLaws}
+use Rattle.sf_sound.proofs.Table.{row-claims}
 use Rattle.sf_rules.specs.First.{first_goal}
 use Rattle.sf_rules.specs.Proving.{Proof, Proofs, ProvesFrom, and, by, no_more}
 use Rattle.sf_sound.specs.Checked.Bodies.{ProvedBodiesAreLocallySafe, ProvedBodiesAreSafe}

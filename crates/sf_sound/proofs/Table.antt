@@ -10,7 +10,7 @@ use Rattle.sf_normal.specs.Knowledge.{absurd_row, back_row, drop_row, force_row,
 use Rattle.sf_normal.specs.Checked.Laws.{AbsurdKeepsGoals, BackKeepsGoals, DropKeepsGoals, ForceKeepsGoals, SplitKeepsGoals, UnrollKeepsGoals}
 use Rattle.sf_produce.specs.Add.{operands}
 use Rattle.sf_rules.specs.Checked.Lemmas.{few-left}
-use Rattle.sf_rules.specs.Checked.LawsOfCommands.{AssignFollowsEvent, LookFollowsEvent, MutateFollowsEvent, NewFollowsEvent, DisposeFollowsEvent, ThenFollowsTest, ElseFollowsTest}
+use Rattle.sf_rules.specs.Checked.LawsOfRows.{RowLaws}
 use Rattle.sf_rules.specs.Checked.LawsOfConjuncts.{AssumeKeepsGoals, AssumedBranchKeepsGoals, SubtractionLeavesRest, ShownBranchLeavesRest}
 use Rattle.sf_rules.specs.Checked.RowCases.{Rows, RowsHaveCases, by_absurd, by_add, by_again, by_around, by_assign, by_back, by_call, by_choice, by_choice_assumed, by_choice_shown, by_dispose, by_drop, by_end, by_enter, by_exit, by_force, by_fork, by_give, by_look, by_loop, by_mutate, by_new, by_return, by_split, by_step, by_unroll}
 use Rattle.sf_rules.specs.Checked.Rows.Add.{assume_row}
@@ -37,27 +37,6 @@ use Rattle.sf_sym.specs.Goal.{Item, run, add, take, Goal}
 use Rattle.sf_sym.specs.Pending.{Pending}
 use Rattle.sf_sym.specs.Shape.{HasShape}
 use Rattle.sf_sym.specs.State.{State}
-
--- the laws of the rows
-pub record RowLaws : Type 0 where
-  pub cases : RowsHaveCases
-  pub absurd_law : AbsurdKeepsGoals
-  pub drop_law : DropKeepsGoals
-  pub force_law : ForceKeepsGoals
-  pub split_law : SplitKeepsGoals
-  pub unroll_law : UnrollKeepsGoals
-  pub back_law : BackKeepsGoals
-  pub assign_law : AssignFollowsEvent
-  pub look_law : LookFollowsEvent
-  pub mutate_law : MutateFollowsEvent
-  pub new_law : NewFollowsEvent
-  pub dispose_law : DisposeFollowsEvent
-  pub then_law : ThenFollowsTest
-  pub else_law : ElseFollowsTest
-  pub assume_law : AssumeKeepsGoals
-  pub assumed_branch_law : AssumedBranchKeepsGoals
-  pub subtraction_law : SubtractionLeavesRest
-  pub shown_branch_law : ShownBranchLeavesRest
 
 module _ (laws : RowLaws) (d : Setting) (goal : Goal) (left : List Goal) (shape : HasShape goal)
     (claims : AllByRecursion (Claim d) left) where

@@ -15,6 +15,7 @@ use Rattle.sf_safe.specs.Checked.Local.{Local}
 use Rattle.sf_sound.specs.Checked.Claims.{Does, with_cells}
 use Rattle.sf_sound.specs.Checked.Suits.{Domain, TodoSuits}
 use Rattle.sf_sym.specs.declared.term.Term.{Term}
+use Rattle.sf_rules.specs.Checked.Lemmas.Forms.{showing-empty}
 use Rattle.sf_sym.specs.Goal.{Item, run, add, take, gave, head, again, exit, return, end, adding, taking, unless_none}
 use Rattle.sf_sym.specs.Holds.{term_value, AddsHold, IsBound, PendingHolds}
 use Rattle.sf_sym.specs.Pending.{Pending}
@@ -51,20 +52,6 @@ taking-suits d D q want names rest s = go want.conjuncts
     go : (cs : Conjuncts Term) → TodoSuits d D (unless_none cs (take q want names) ++ rest)
     go none = s
     go (also c cs) = s
-
--- nothing is assumed at once, where something is shown first
-showing-empty : (w : ℕ → Value) (todo : List Item) (heap : Heap) → IsShowing todo → IsEmpty heap
-    → AddsHold w todo heap
-showing-empty w [] heap i e = absurd i
-showing-empty w (take q want names ∷ rest) heap i e = e
-showing-empty w (gave q set removed ∷ rest) heap i e = e
-showing-empty w (head q test invariant body ∷ rest) heap i e = e
-showing-empty w (end q ∷ rest) heap i e = e
-showing-empty w (run c ∷ rest) heap i e = absurd i
-showing-empty w (add q given ∷ rest) heap i e = absurd i
-showing-empty w (exit q r ∷ rest) heap i e = absurd i
-showing-empty w (again q invariant ∷ rest) heap i e = absurd i
-showing-empty w (return q post ∷ rest) heap i e = absurd i
 
 pub showing-holds : {P : Heap → Type 0} (w : ℕ → Value) (todo : List Item) (heap : Heap) → IsShowing todo → P heap
     → (P ⋆ AddsHold w todo) heap

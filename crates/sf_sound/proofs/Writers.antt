@@ -5,7 +5,6 @@ use Rattle.std.specs.Prelude.{◌≡◌, ◌≤◌, ◌<◌, [], ◌∷◌, None
 use Rattle.std.specs.List.{All}
 use Rattle.std.proofs.Common.{arith, inl, inr, refl, subst, sym}
 use Rattle.std.proofs.lemmas.List.Elements.{All-cons, All-nil}
-use Rattle.std.proofs.lemmas.Option.{none-some}
 use Rattle.sf_base.proofs.HeapSplits.{one-single}
 use Rattle.sf_base.proofs.MapSplits.{splits-empty_right}
 use Rattle.sf_base.specs.declared.ids.ResId.{ResId}
@@ -13,7 +12,6 @@ use Rattle.sf_base.specs.declared.ids.Var.TheVariants.{Own, Shared}
 use Rattle.sf_base.specs.declared.value.Value.TheVariants.{Nil as nil, Loc as loc}
 use Rattle.sf_base.specs.HeapStore.{Cell}
 use Rattle.sf_calls.specs.Around.{Shares}
-use Rattle.sf_calls.specs.Assigned.{MayChange}
 use Rattle.sf_calls.specs.FirstBreach.{Conditions}
 use Rattle.sf_calls.specs.Checked.Laws.{SetsExist}
 use Rattle.sf_core.specs.Assertions.Determined.{Determined}
@@ -26,7 +24,7 @@ use Rattle.sf_core.specs.Program.Formed.{CallWithin, ExprWithin, IsFormed, IsInB
 use Rattle.sf_core.specs.Program.Syntax.{Assertion, Procedure}
 use Rattle.sf_precise.specs.Annotations.{annotations_in}
 use Rattle.sf_precise.specs.Checked.Laws.{OrderingExists}
-use Rattle.sf_sound.proofs.SmallPrograms.{cell-determined, cell-no_shared, cell-within, emp-determined, emp-within, of-two, bare-unless, none-twice}
+use Rattle.sf_sound.proofs.SmallPrograms.{cell-determined, cell-no_shared, cell-within, emp-determined, emp-within, of-two, bare-formed, by_value-unshared, small-within}
 use Rattle.sf_sound.proofs.Races.{forks-deep, none-there, one-kept, one-no_more, race-of, race-unsound, sound-by}
 use Rattle.sf_sound.specs.Checked.ExamplesOfRaces.{RacesAtFork, WritersHaveNoProof, write_x, writers, writes, writes_twice}
 use Rattle.sf_core.specs.Machine.Sound.{IsSound}
@@ -35,20 +33,8 @@ use Rattle.sf_sound.specs.Proofs.{ProofsAreSound}
 -- it is formed
 w-within : ProcedureWithin writers writes
 w-within =
-    let few : 1 ≤ 256 = omega arith in
-    let named : 1 ≤ 1 = omega arith in
-    let primed : 1 ≤ 2 = omega arith in
     let first : 0 < 1 = omega arith in
-    let nesting : 1 ≤ 64 = omega arith in record {
-      declared_count = few;
-      declared = named;
-      primed = primed;
-      pre = emp-within _ _;
-      post = emp-within _ _;
-      body = ((first, first, tt), tt);
-      depth = nesting;
-      init = bare-unless _ refl;
-    }
+    small-within writers writes refl refl refl refl refl (emp-within _ _) (emp-within _ _) ((first, first, tt), tt)
 
 call-within : CallWithin writers writes_twice write_x
 call-within =
@@ -61,43 +47,20 @@ call-within =
 
 m-within : ProcedureWithin writers writes_twice
 m-within =
-    let few : 1 ≤ 256 = omega arith in
-    let named : 1 ≤ 1 = omega arith in
-    let primed : 1 ≤ 2 = omega arith in
     let first : 0 < 1 = omega arith in
-    let nesting : 1 ≤ 64 = omega arith in record {
-      declared_count = few;
-      declared = named;
-      primed = primed;
-      pre = cell-within _ _ (own_one 0) first;
-      post = cell-within _ _ (own_one 0) first;
-      body = ((call-within, call-within), tt);
-      depth = nesting;
-      init = bare-unless _ refl;
-    }
+    small-within writers writes_twice refl refl refl refl refl (cell-within _ _ (own_one 0) first)
+    (cell-within _ _ (own_one 0) first) ((call-within, call-within), tt)
 
 others : (k : ℕ) (g : Procedure) → slice_get writers.procedures k ≡ Some g → is_init g ≡ false
 others = of-two (λ g. is_init g ≡ false) writes writes_twice refl refl
 
 formed : IsFormed writers
-formed = record {
-  procedures = of-two (ProcedureWithin writers) writes writes_twice w-within m-within;
-  resources = λ k r e. absurd (none-some r e);
-  procedure_count = let e : 2 ≤ 1000 = omega arith in e;
-  resource_count = let e : 0 ≤ 64 = omega arith in e;
-  field_count = let e : 1 ≤ 16 = omega arith in e;
-  variables = let e : 0 ≤ 256 = omega arith in e;
-  one_init = none-twice writers.procedures others;
-}
+formed =
+    bare-formed writers refl (of-two (ProcedureWithin writers) writes writes_twice w-within m-within) refl refl others
 
 -- the conditions on variables: the calls have no references
-unchanged : MayChange writers write_x (Own 0) → ⊥
-unchanged (inl a) = a
-unchanged (inr w) = w.0
-
 unshared : Shares writers write_x write_x (Own 0) → ⊥
-unshared (inl s) = unchanged s.0
-unshared (inr s) = unchanged s.0
+unshared = by_value-unshared writers write_x write_x refl refl 0
 
 conditions : Conditions writers
 conditions = ((λ b. b), ((λ b. b), ((λ b. b), (unshared, (unshared, tt)))))

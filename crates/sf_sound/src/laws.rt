@@ -5,19 +5,10 @@ ghost use Rattle.sf_sound.specs.Checked.Bodies.{ProvedBodiesAreLocallySafe, Prov
 ghost use Rattle.sf_sound.specs.Proofs.{ProofsAreSound};
 
 use sf_calls::laws::{changes_are_assigned, first_breach_is_broken};
-use sf_normal::laws::{
-    absurd_keeps_goals, back_keeps_goals, drop_keeps_goals, force_keeps_goals, split_keeps_goals,
-    unroll_keeps_goals,
-};
 use sf_precise::laws::{
     determined_has_order, order_keeps_form, order_keeps_meaning, ordered_is_determined,
 };
-use sf_rules::laws::{
-    assign_follows_event, assume_keeps_goals, assumed_branch_keeps_goals, dispose_follows_event,
-    else_follows_test, first_goals_are_shaped, look_follows_event, mutate_follows_event,
-    new_follows_event, rows_have_cases, rows_keep_shape, shown_branch_leaves_rest,
-    subtraction_leaves_rest, then_follows_test,
-};
+use sf_rules::laws::{first_goals_are_shaped, rows_have_laws, rows_keep_shape};
 use sf_safe::{locally_safe_bodies_are_safe, locally_safe_programs_are_sound};
 
 /// The bodies of a program that tags prove by the rows of the whole table are safe as they see
@@ -28,24 +19,7 @@ pub fn proved_bodies_are_locally_safe()
 {
     first_goals_are_shaped();
     rows_keep_shape();
-    rows_have_cases();
-    absurd_keeps_goals();
-    drop_keeps_goals();
-    force_keeps_goals();
-    split_keeps_goals();
-    unroll_keeps_goals();
-    back_keeps_goals();
-    assign_follows_event();
-    look_follows_event();
-    mutate_follows_event();
-    new_follows_event();
-    dispose_follows_event();
-    then_follows_test();
-    else_follows_test();
-    assume_keeps_goals();
-    assumed_branch_keeps_goals();
-    subtraction_leaves_rest();
-    shown_branch_leaves_rest();
+    rows_have_laws();
     first_breach_is_broken();
     changes_are_assigned();
     order_keeps_meaning();

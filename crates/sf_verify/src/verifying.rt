@@ -1,14 +1,11 @@
-ghost use Rattle.std.specs.Prelude.{◌≡◌, ◌<◌, ◌≤◌, ◌∷◌, IfErr, IfOk, IfSome, length, min};
+ghost use Rattle.std.specs.Prelude.{◌≡◌, ◌<◌, IfErr, IfOk, IfSome, length, min};
 ghost use Rattle.std.specs.List.{slice_get};
-ghost use Rattle.sf_base.specs.Results.{Appends};
-ghost use Rattle.sf_base.specs.declared.limits.TheConstants.{FILE_TAGS as FILE_LIMIT};
 ghost use Rattle.sf_check.specs.Accepted.{arranged_in, tags_in};
 ghost use Rattle.sf_precise.specs.Order.{IsOrdering};
 ghost use Rattle.sf_rules.specs.Setting.{Setting, setting_of};
 ghost use Rattle.sf_rules.specs.First.{first_goal};
-ghost use Rattle.sf_search.specs.Ends.{EndsAs, FailsAs, failure};
+ghost use Rattle.sf_search.specs.Ends.{EndsAs, FailsAs};
 ghost use Rattle.sf_search.specs.Judge.{Judge, Search, proof, proved};
-ghost use Rattle.sf_sym.specs.declared.tag.Tag.TheVariants.{Procedure};
 
 use crate::board::Board;
 use crate::subject::Subject;
@@ -18,7 +15,7 @@ use sf_base::limits::FILE_TAGS;
 use sf_check::{CheckFault, Proof, check};
 use sf_io::Gate;
 use sf_precise::Arranged;
-use sf_search::{SearchFault, VerifyFault, search, taken_tags_prove};
+use sf_search::{SearchFault, VerifyFault, append, failure, search, taken_tags_prove};
 use sf_sym::Tag;
 use std::alloc::{AllocError, Global};
 use std::marker::Brand;
@@ -144,34 +141,6 @@ fn found_of<'a, K: Subject>(
         Some(found) => found.end,
         None => search(alloc, arranged, f),
     }
-}
-
-/// What a search that found no proof means for the program, where so many tags of the file were
-/// used before: with more than a file may have it is too large.
-fn failure<'a>(f: ProcId, fault: SearchFault<'a>, spent: usize) -> VerifyFault<'a>
-    requires { spent ≤ FILE_LIMIT }
-    ensures { result ≡ failure spent f fault.entry }
-{
-    match fault {
-        SearchFault::Stuck(goal, kind, before) => {
-            if before > FILE_TAGS - spent {
-                VerifyFault::Failed(f, SearchFault::TooLarge)
-            } else {
-                VerifyFault::Failed(f, SearchFault::Stuck(goal, kind, before))
-            }
-        }
-        SearchFault::TooLarge => VerifyFault::Failed(f, SearchFault::TooLarge),
-        SearchFault::OutOfMemory => VerifyFault::OutOfMemory,
-    }
-}
-
-/// Puts a procedure's tags after those of the procedures before it. An `Err` means out of memory.
-fn append(tags: &mut Vec<Tag>, f: ProcId, found: &[Tag]) -> Result<(), AllocError>
-    ensures { Appends result tags.old.items tags.new.items (Procedure f ∷ found.now) }
-{
-    tags.push(Tag::Procedure(f))?;
-    tags.extend_from_slice(found)?;
-    Ok(())
 }
 
 /// The proof that the tags of a verdict are. An `Err` says that memory ran out: the checker accepts

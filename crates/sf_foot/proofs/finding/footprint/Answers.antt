@@ -4,7 +4,7 @@ use Rattle.sf_heap.specs.Cells.{HasCell}
 use Rattle.std.specs.List.{Contains}
 use Rattle.sf_foot.specs.Variables.{value_of}
 use Rattle.sf_foot.proofs.Feet.{foot-found, foot-none, foot-ready, foot-repeats, foot-there}
-use Rattle.sf_foot.proofs.Views.{view-level}
+use Rattle.sf_foot.specs.Checked.Lemmas.Views.{view-level}
 use Rattle.sf_foot.proofs.finding.footprint.Goals as goal
 
 -- the conjuncts are in order

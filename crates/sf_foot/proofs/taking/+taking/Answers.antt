@@ -5,7 +5,7 @@ use Rattle.sf_core.specs.Program.View.{level_of}
 use Rattle.sf_foot.specs.Variables.{value_of}
 use Rattle.sf_foot.proofs.Taken.{next_refused, next_taken, none_left}
 use Rattle.sf_foot.proofs.Takings.{overflows-level, overflows-this, overflows-that, takes-level, takes-test, takes-this, takes-that}
-use Rattle.sf_foot.proofs.Views.{view-holds, view-if, view-level, view-points, view-segment, view-doubly, view-tree}
+use Rattle.sf_foot.specs.Checked.Lemmas.Views.{view-holds, view-if, view-level, view-points, view-segment, view-doubly, view-tree}
 use Rattle.sf_foot.proofs.taking.+taking.Goals as goal
 
 -- one conjunct after the other

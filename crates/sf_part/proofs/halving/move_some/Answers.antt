@@ -7,6 +7,7 @@ use Rattle.sf_part.specs.declared.supply.Units.{Units}
 use Rattle.std.specs.Prelude.{List}
 use Rattle.sf_part.proofs.Ranges.{fit_last, numbers_snoc}
 use Rattle.sf_part.proofs.Halves.{halves-fit, halves-front, halves-many, halves-moved, halves-units}
+use Rattle.sf_part.proofs.halving.move_some.Goals.{After-push_reserved}
 use Rattle.sf_part.proofs.halving.move_some.Goals as goal
 
 pub returns-then-units-count-clause-moved : goal.returns-then-units-count-clause-moved
@@ -30,8 +31,9 @@ overflow_add-units c =
     c.in-Some.ensures.items c.requires.fit in
     omega arith
 
-pub returns-in_err-push-2-clause-fit : goal.returns-in_err-push-2-clause-fit
-returns-in_err-push-2-clause-fit c =
+-- what is left of the units fits, with those that were cut off its front gone
+rest-fit : (c : After-push_reserved) → AreFit c.push_reserved.new.self.items
+rest-fit c =
     let fit = fit_last c.args.ranges.now.items c.pop.new.self.items c.in-Some.units
     c.in-Some.ensures.items c.requires.fit in
     subst AreFit (sym c.push_reserved.ensures.items) (halves-fit c.pop.new.self.items
@@ -42,17 +44,12 @@ returns-in_err-push-2-clause-fit c =
     (halves-front c.args.ranges.now.items c.pop.new.self.items c.in-Some.units
     c.in-Some.ensures.items c.requires.fit) (omega arith) (omega arith))
 
+pub returns-in_err-push-2-clause-fit : goal.returns-in_err-push-2-clause-fit
+returns-in_err-push-2-clause-fit c =
+    rest-fit (goal.at.returns-in_err-push-2-clause-fit c).After-push_reserved
+
 pub returns-clause-fit : goal.returns-clause-fit
-returns-clause-fit c =
-    let fit = fit_last c.args.ranges.now.items c.pop.new.self.items c.in-Some.units
-    c.in-Some.ensures.items c.requires.fit in
-    subst AreFit (sym c.push_reserved.ensures.items) (halves-fit c.pop.new.self.items
-    (record {
-      first = c.in-Some.units.first + c.args.count;
-      count = c.in-Some.units.count - c.args.count;
-    })
-    (halves-front c.args.ranges.now.items c.pop.new.self.items c.in-Some.units
-    c.in-Some.ensures.items c.requires.fit) (omega arith) (omega arith))
+returns-clause-fit c = rest-fit (goal.at.returns-clause-fit c).After-push_reserved
 
 pub returns-clause-first_fit : goal.returns-clause-first_fit
 returns-clause-first_fit c =

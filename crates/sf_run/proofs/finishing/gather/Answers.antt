@@ -6,7 +6,18 @@ use Rattle.sf_core.specs.Program.View.{resource_of}
 use Rattle.sf_frame.specs.Checked.Resources.{counts_of}
 use Rattle.sf_part.specs.declared.content.Content.{Content}
 use Rattle.sf_run.proofs.Ending.{Gathers, gather-apart, gather-cells, gather-more, gather-next, none-comes}
+use Rattle.sf_run.proofs.finishing.gather.Goals.{In-Some}
 use Rattle.sf_run.proofs.finishing.gather.Goals as goal
+
+-- what the content in hand, with the others still to come, gathers
+gathers : (c : In-Some)
+    → Gathers (counts_of c.args.p.now.resources.items) (length (program_of c.args.p.now).fields)
+    c.args.contents.items c.args.heap.now c.loop-content.heap
+    (c.in-Some.content ∷ into_iter_items c.next.new.self) c.loop-content.rows.items
+gathers c = subst (λ (z : List Content). Gathers (counts_of c.args.p.now.resources.items)
+    (length (program_of c.args.p.now).fields) c.args.contents.items c.args.heap.now
+    c.loop-content.heap z c.loop-content.rows.items) (c.in-Some.ensures.cases).0
+    c.loop-content.invariant
 
 pub take_in-requires-clause-resource : goal.take_in-requires-clause-resource
 take_in-requires-clause-resource c =
@@ -14,10 +25,7 @@ take_in-requires-clause-resource c =
     let width = length (program_of c.args.p.now).fields in
     let all = c.args.contents.items in
     let now = c.loop-content.heap in
-    let g : Gathers counts width all c.args.heap.now now
-    (c.in-Some.content ∷ into_iter_items c.next.new.self) c.loop-content.rows.items =
-    subst (λ (z : List Content). Gathers counts width all c.args.heap.now now z
-    c.loop-content.rows.items) (c.in-Some.ensures.cases).0 c.loop-content.invariant in
+    let g = gathers (goal.at.take_in-requires-clause-resource c).In-Some in
     let l = (gather-next counts width all c.args.heap.now (program_of c.args.p.now) c.requires.all now
     c.in-Some.content (into_iter_items c.next.new.self) c.loop-content.rows.items g).0 in
     omega (arith, l, length-map c.args.p.now.resources.items resource_of)
@@ -28,10 +36,7 @@ take_in-requires-clause-of c =
     let width = length (program_of c.args.p.now).fields in
     let all = c.args.contents.items in
     let now = c.loop-content.heap in
-    let g : Gathers counts width all c.args.heap.now now
-    (c.in-Some.content ∷ into_iter_items c.next.new.self) c.loop-content.rows.items =
-    subst (λ (z : List Content). Gathers counts width all c.args.heap.now now z
-    c.loop-content.rows.items) (c.in-Some.ensures.cases).0 c.loop-content.invariant in
+    let g = gathers (goal.at.take_in-requires-clause-of c).In-Some in
     (gather-next counts width all c.args.heap.now (program_of c.args.p.now) c.requires.all now
     c.in-Some.content (into_iter_items c.next.new.self) c.loop-content.rows.items g).1
 
@@ -41,10 +46,7 @@ take_in-requires-clause-apart c =
     let width = length (program_of c.args.p.now).fields in
     let all = c.args.contents.items in
     let now = c.loop-content.heap in
-    let g : Gathers counts width all c.args.heap.now now
-    (c.in-Some.content ∷ into_iter_items c.next.new.self) c.loop-content.rows.items =
-    subst (λ (z : List Content). Gathers counts width all c.args.heap.now now z
-    c.loop-content.rows.items) (c.in-Some.ensures.cases).0 c.loop-content.invariant in
+    let g = gathers (goal.at.take_in-requires-clause-apart c).In-Some in
     gather-apart counts width all c.args.heap.now (c.requires.apart).0 (c.requires.apart).1 now
     c.in-Some.content (into_iter_items c.next.new.self) c.loop-content.rows.items g
 
@@ -54,10 +56,7 @@ loop-content-preserved c =
     let width = length (program_of c.args.p.now).fields in
     let all = c.args.contents.items in
     let now = c.loop-content.heap in
-    let g : Gathers counts width all c.args.heap.now now
-    (c.in-Some.content ∷ into_iter_items c.next.new.self) c.loop-content.rows.items =
-    subst (λ (z : List Content). Gathers counts width all c.args.heap.now now z
-    c.loop-content.rows.items) (c.in-Some.ensures.cases).0 c.loop-content.invariant in
+    let g = gathers (goal.at.loop-content-preserved c).In-Some in
     gather-more counts width all c.args.heap.now now c.take_in.new.heap c.in-Some.content
     (into_iter_items c.next.new.self) c.loop-content.rows.items c.push.new.self.items
     c.in_ok-row.row g c.in_ok-row.ensures.row c.in_ok-row.ensures.heap c.in_ok-row.ensures.wide

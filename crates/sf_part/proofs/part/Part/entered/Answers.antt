@@ -1,4 +1,4 @@
-use Rattle.std.proofs.Common.{ap, ◌∙◌, ◌+◌, ◌≡◌, ◌≤◌, ◌∷◌, None, Some, length, refl, subst, sym, arith}
+use Rattle.std.proofs.Common.{ap, ◌∙◌, ◌+◌, ◌≡◌, ◌≤◌, ◌∷◌, Some, length, refl, subst, sym, arith}
 use Rattle.sf_base.proofs.Options.{is_some-false}
 use Rattle.sf_base.specs.declared.limits.TheConstants.{STEPS}
 use Rattle.sf_core.specs.Machine.Config.{Common}
@@ -11,13 +11,15 @@ use Rattle.sf_frame.specs.declared.frame.Way.TheVariants.{Into}
 use Rattle.sf_frame.specs.declared.stack.Change.TheVariants.{GoOn}
 use Rattle.sf_part.specs.Checked.Stepping.{own_event}
 use Rattle.sf_part.specs.Contents.{content_of}
-use Rattle.sf_part.specs.Keeps.{IsWaiting, Keeps}
+use Rattle.sf_part.specs.Keeps.{IsWaiting}
 use Rattle.sf_part.specs.Of.{frames_in}
 use Rattle.sf_part.specs.Parts.{part_with}
 use Rattle.sf_part.specs.PartView.{part_of}
 use Rattle.sf_part.specs.Stands.{stand_in}
-use Rattle.sf_part.proofs.Performed.{performed-keeps, same-common, same-own, same-part}
+use Rattle.sf_part.proofs.Performed.{performed-keeps, same-common}
 use Rattle.sf_part.proofs.Taking.{taking-after, taking-freed, taking-own, taking-unmade}
+use Rattle.sf_part.proofs.Unchanged.{unchanged-kept, unchanged-own, unchanged-part}
+use Rattle.sf_part.proofs.part.Part.entered.Goals.{After-edit}
 use Rattle.sf_part.proofs.part.Part.entered.Goals as goal
 
 pub invariant_of-self : goal.invariant_of-self
@@ -25,67 +27,45 @@ invariant_of-self c =
     let common : common_of c.apply.new.shared ≡ common_of c.args.self.now.shared =
     same-common (common_of c.apply.new.shared) (common_of c.args.self.now.shared)
     c.in-Err.ensures.err in
-    record {
-      kept = subst Keeps
-          (sym (same-part c.args.self.now.task c.args.self.now.stand c.args.self.now.stand
-          c.args.self.now.shared c.apply.new.shared c.args.self.now.supply c.args.self.now.clock
-          c.args.self.now.keeps c.args.self.now.log.items c.args.self.now.given refl common))
-          c.args.self.now.kept;
-      own = same-own c.args.self.now.task c.args.self.now.shared c.apply.new.shared
-          (ap (λ (z : Common). z.held) common) c.args.self.now.own;
+    let a = c.args.self.now in record {
+      kept = unchanged-kept a a.stand c.apply.new.shared refl common;
+      own = unchanged-own a a.stand c.apply.new.shared refl common;
     }
 
 pub returns-in-Err-clause-err : goal.returns-in-Err-clause-err
 returns-in-Err-clause-err c =
-    same-part c.args.self.now.task c.args.self.now.stand c.args.self.now.stand
-    c.args.self.now.shared
-    c.apply.new.shared c.args.self.now.supply c.args.self.now.clock c.args.self.now.keeps
-    c.args.self.now.log.items c.args.self.now.given refl
+    unchanged-part c.args.self.now c.args.self.now.stand c.apply.new.shared refl
     (same-common (common_of c.apply.new.shared) (common_of c.args.self.now.shared)
     c.in-Err.ensures.err)
 
+-- the resource is free again, and nothing else has changed
+freed : (c : After-edit) → IsSameCommon (common_of c.take_in.new.shared)
+    (common_of c.apply.new.shared)
+    → common_of c.edit.new.shared ≡ common_of c.args.self.now.shared
+freed c kept =
+    let before = common_of c.args.self.now.shared in
+    let r = c.args.content.resource in
+    let task = c.args.self.now.task in
+    let same = same-common (common_of c.take_in.new.shared) (common_of c.apply.new.shared) kept in
+    taking-freed before (common_of c.take_in.new.shared) (common_of c.edit.new.shared) r task
+    (is_some-false (held_of c.args.self.now.shared.held r) c.requires.may.outside)
+    (subst (λ (z : Common). IsSameCommon z (set_holder r (Some task) before)) (sym same)
+    c.in_default.ensures.ok) c.edit.ensures.done
+
 pub invariant_of-self-in-Err-take_in : goal.invariant_of-self-in-Err-take_in
 invariant_of-self-in-Err-take_in c =
-    let free : (common_of c.args.self.now.shared).held c.args.content.resource ≡ None =
-    is_some-false (held_of c.args.self.now.shared.held c.args.content.resource)
-    c.requires.may.outside in
-    let same = same-common (common_of c.take_in.new.shared) (common_of c.apply.new.shared)
+    let a = c.args.self.now in
+    let common = freed (goal.at.invariant_of-self-in-Err-take_in c).After-edit
     c.in-Err-take_in.ensures.err in
-    let common : common_of c.edit.new.shared ≡ common_of c.args.self.now.shared =
-    taking-freed (common_of c.args.self.now.shared) (common_of c.take_in.new.shared)
-    (common_of c.edit.new.shared) c.args.content.resource c.args.self.now.task free
-    (subst (λ (z : Common).
-    IsSameCommon z (set_holder c.args.content.resource (Some c.args.self.now.task)
-    (common_of c.args.self.now.shared)))
-    (sym same) c.in_default.ensures.ok) c.edit.ensures.done in
     record {
-      kept = subst Keeps
-          (sym (same-part c.args.self.now.task c.args.self.now.stand c.args.self.now.stand
-          c.args.self.now.shared c.edit.new.shared c.args.self.now.supply c.args.self.now.clock
-          c.args.self.now.keeps c.args.self.now.log.items c.args.self.now.given refl common))
-          c.args.self.now.kept;
-      own = same-own c.args.self.now.task c.args.self.now.shared c.edit.new.shared
-          (ap (λ (z : Common). z.held) common) c.args.self.now.own;
+      kept = unchanged-kept a a.stand c.edit.new.shared refl common;
+      own = unchanged-own a a.stand c.edit.new.shared refl common;
     }
 
 pub returns-in-Err-take_in-clause-err : goal.returns-in-Err-take_in-clause-err
 returns-in-Err-take_in-clause-err c =
-    let free : (common_of c.args.self.now.shared).held c.args.content.resource ≡ None =
-    is_some-false (held_of c.args.self.now.shared.held c.args.content.resource)
-    c.requires.may.outside in
-    let same = same-common (common_of c.take_in.new.shared) (common_of c.apply.new.shared)
-    c.in-Err-take_in.ensures.err in
-    let common : common_of c.edit.new.shared ≡ common_of c.args.self.now.shared =
-    taking-freed (common_of c.args.self.now.shared) (common_of c.take_in.new.shared)
-    (common_of c.edit.new.shared) c.args.content.resource c.args.self.now.task free
-    (subst (λ (z : Common).
-    IsSameCommon z (set_holder c.args.content.resource (Some c.args.self.now.task)
-    (common_of c.args.self.now.shared)))
-    (sym same) c.in_default.ensures.ok) c.edit.ensures.done in
-    same-part c.args.self.now.task c.args.self.now.stand c.args.self.now.stand
-    c.args.self.now.shared
-    c.edit.new.shared c.args.self.now.supply c.args.self.now.clock c.args.self.now.keeps
-    c.args.self.now.log.items c.args.self.now.given refl common
+    unchanged-part c.args.self.now c.args.self.now.stand c.edit.new.shared refl
+    (freed (goal.at.returns-in-Err-take_in-clause-err c).After-edit c.in-Err-take_in.ensures.err)
 
 pub invariant_of-self-2 : goal.invariant_of-self-2
 invariant_of-self-2 c =

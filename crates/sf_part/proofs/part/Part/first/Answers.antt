@@ -1,4 +1,4 @@
-use Rattle.std.proofs.Common.{◌≡◌, ◌-◌, ◌∙◌, ℕ, nat_eq, true, List, Contains, arith, length, map, replicate, subst, sym, ap}
+use Rattle.std.proofs.Common.{◌≡◌, ◌-◌, ◌∙◌, ℕ, nat_eq, true, List, Contains, arith, length, replicate, subst, sym, ap}
 use Rattle.std.specs.FinMap.{contains_key}
 use Rattle.std.specs.List.{IsDistinct, concat}
 use Rattle.std.proofs.lemmas.Bool.Decides.{Decides-eqb}
@@ -11,13 +11,11 @@ use Rattle.sf_core.specs.Program.ProgramView.{program_of}
 use Rattle.sf_core.specs.Program.View.{resource_of}
 use Rattle.sf_safe.proofs.Unheld.{unheld-is_not_free}
 use Rattle.sf_part.specs.Checked.Parting.{ArePartedOff}
-use Rattle.sf_part.specs.Contents.{content_of}
-use Rattle.sf_part.specs.Keeps.{Keeps}
-use Rattle.sf_part.specs.Of.{IsOf}
-use Rattle.sf_part.specs.Starts.{Starts}
-use Rattle.sf_part.specs.Timed.{TimedPart}
-use Rattle.sf_part.proofs.Begun.{begun-all_exactly, begun-all_in, begun-few, begun-keeps, begun-of, begun-own, begun-same, begun-starts, begun-wide}
+use Rattle.sf_part.specs.declared.stand.Stand.TheVariants.{Runs}
+use Rattle.sf_part.specs.Parts.{part_with}
+use Rattle.sf_part.proofs.Begun.{First, begun-few, begun-first}
 use Rattle.sf_part.proofs.Parting.{concat-has, distinct-parts}
+use Rattle.sf_part.proofs.part.Part.first.Goals.{After-new-3}
 use Rattle.sf_part.proofs.part.Part.first.Goals as goal
 
 pub part_contents-requires-clause-few : goal.part_contents-requires-clause-few
@@ -41,114 +39,54 @@ part_contents-requires-clause-there c = λ j l h.
     (c.requires.starts.union.1 l
     ∙ (is_member-Decides Decides-eqb (concat c.args.start.parts.items) l).1 inside)
 
-pub invariant_of-part : goal.invariant_of-part
-invariant_of-part c =
+-- the part and the contents are the first
+first : (c : After-new-3)
+    → First (program_of c.args.p.now.program) c.args.f c.args.start.fresh c.args.start.vars
+    c.args.start.heap c.args.start.unit c.args.steps c.part_contents.new.shared
+    c.in_ok-contents.contents.items (part_with c.entry.result (Runs c.in_ok-stack.stack)
+    c.part_contents.new.shared c.in_ok-supply.supply 0 c.args.keep c.new-3.result.items
+    c.args.steps)
+first c =
     let p = program_of c.args.p.now.program in
     let s = c.requires.starts in
-    let parted = subst (λ ps. ArePartedOff p.resources ps (length ps - 1) c.in_ok-shared.shared
-    c.in_ok-contents.contents.items c.part_contents.new.shared) c.deref.ensures.value
-    c.in_ok-contents.ensures in
-    record {
-      kept = subst Keeps (begun-same c.entry.result c.in_ok-stack.stack c.part_contents.new.shared
-          c.in_ok-supply.supply c.new-3.result.items c.args.keep c.args.start.unit c.args.steps
-          c.entry.ensures c.in_ok-supply.ensures c.new-3.ensures.items)
-          (begun-keeps p c.args.p.now.program.formed c.args.f c.args.start.fresh c.args.start.vars
-          c.args.start.heap c.args.start.parts.items s
-          (λ r i. unheld-is_not_free p c.args.f r i c.args.p.now.program.formed
-          (conditions_had p c.args.p.now.conditions) (s.starts.holds_none r)) c.in_ok-shared.shared
-          c.part_contents.new.shared c.in_ok-contents.contents.items c.in_ok-shared.ensures.heap
-          (c.in_ok-shared.ensures.common s.procedure s.beginning s.there s.kind) parted
-          c.in_ok-stack.stack c.args.keep c.args.start.unit c.args.steps
-          (c.in_ok-stack.ensures s.procedure s.beginning s.there s.kind) c.args.start.above
-          c.requires.most);
-      own = λ r holder e. begun-own p c.args.p.now.program.formed c.args.f c.args.start.fresh
-          c.args.start.vars c.args.start.heap c.args.start.parts.items s
-          (λ r i. unheld-is_not_free p c.args.f r i c.args.p.now.program.formed
-          (conditions_had p c.args.p.now.conditions) (s.starts.holds_none r)) c.in_ok-shared.shared
-          c.part_contents.new.shared c.in_ok-contents.contents.items c.in_ok-shared.ensures.heap
-          (c.in_ok-shared.ensures.common s.procedure s.beginning s.there s.kind) parted r holder e
-          ∙ sym c.entry.ensures;
-    }
-
-pub returns-clause-starts : goal.returns-clause-starts
-returns-clause-starts c =
-    let p = program_of c.args.p.now.program in
-    let s = c.requires.starts in
-    let parted = subst (λ ps. ArePartedOff p.resources ps (length ps - 1) c.in_ok-shared.shared
-    c.in_ok-contents.contents.items c.part_contents.new.shared) c.deref.ensures.value
-    c.in_ok-contents.ensures in
-    subst (λ (a : TimedPart). Starts p c.args.f c.args.start.fresh c.args.start.vars
-    c.args.start.heap c.args.start.unit c.args.steps a
-    (map content_of c.in_ok-contents.contents.items))
-    (begun-same c.entry.result c.in_ok-stack.stack c.part_contents.new.shared
-    c.in_ok-supply.supply c.new-3.result.items c.args.keep c.args.start.unit c.args.steps
-    c.entry.ensures c.in_ok-supply.ensures c.new-3.ensures.items)
-    (begun-starts p c.args.p.now.program.formed c.args.f c.args.start.fresh c.args.start.vars
+    begun-first p c.args.p.now.program.formed c.args.f c.args.start.fresh c.args.start.vars
     c.args.start.heap c.args.start.parts.items s
     (λ r i. unheld-is_not_free p c.args.f r i c.args.p.now.program.formed
     (conditions_had p c.args.p.now.conditions) (s.starts.holds_none r)) c.in_ok-shared.shared
     c.part_contents.new.shared c.in_ok-contents.contents.items c.in_ok-shared.ensures.heap
-    (c.in_ok-shared.ensures.common s.procedure s.beginning s.there s.kind) parted
+    (c.in_ok-shared.ensures.common s.procedure s.beginning s.there s.kind)
+    (subst (λ ps. ArePartedOff p.resources ps (length ps - 1) c.in_ok-shared.shared
+    c.in_ok-contents.contents.items c.part_contents.new.shared) c.deref.ensures.value
+    c.in_ok-contents.ensures)
     c.in_ok-stack.stack c.args.keep c.args.start.unit c.args.steps
     (c.in_ok-stack.ensures s.procedure s.beginning s.there s.kind) c.args.start.above
-    c.requires.most)
+    c.requires.most c.entry.result c.entry.ensures c.in_ok-supply.supply c.in_ok-supply.ensures
+    c.new-3.result.items c.new-3.ensures.items
+
+pub invariant_of-part : goal.invariant_of-part
+invariant_of-part c =
+    let made = first (goal.at.invariant_of-part c).After-new-3 in
+    record { kept = made.kept; own = made.own }
+
+pub returns-clause-starts : goal.returns-clause-starts
+returns-clause-starts c =
+    let made = first (goal.at.returns-clause-starts c).After-new-3 in made.starts
 
 pub returns-clause-of : goal.returns-clause-of
 returns-clause-of c =
-    let p = program_of c.args.p.now.program in
-    let s = c.requires.starts in
-    let parted = subst (λ ps. ArePartedOff p.resources ps (length ps - 1) c.in_ok-shared.shared
-    c.in_ok-contents.contents.items c.part_contents.new.shared) c.deref.ensures.value
-    c.in_ok-contents.ensures in
+    let made = first (goal.at.returns-clause-of c).After-new-3 in
     let fields : c.len.result ≡ length c.args.p.now.program.fields.items =
     grind (arith, common_steps) in
     record {
-      is = subst (λ (a : TimedPart). IsOf p a.part)
-          (begun-same c.entry.result c.in_ok-stack.stack c.part_contents.new.shared
-          c.in_ok-supply.supply c.new-3.result.items c.args.keep c.args.start.unit c.args.steps
-          c.entry.ensures c.in_ok-supply.ensures c.new-3.ensures.items)
-          (begun-of p c.args.p.now.program.formed c.args.f c.args.start.fresh c.args.start.vars
-          c.args.start.heap c.args.start.parts.items s
-          (λ r i. unheld-is_not_free p c.args.f r i c.args.p.now.program.formed
-          (conditions_had p c.args.p.now.conditions) (s.starts.holds_none r)) c.in_ok-shared.shared
-          c.part_contents.new.shared c.in_ok-contents.contents.items c.in_ok-shared.ensures.heap
-          (c.in_ok-shared.ensures.common s.procedure s.beginning s.there s.kind) parted
-          c.in_ok-stack.stack c.args.keep c.args.start.unit c.args.steps
-          (c.in_ok-stack.ensures s.procedure s.beginning s.there s.kind) c.args.start.above
-          c.requires.most);
-      wide = begun-wide p c.args.p.now.program.formed c.args.f c.args.start.fresh
-          c.args.start.vars c.args.start.heap c.args.start.parts.items s
-          (λ r i. unheld-is_not_free p c.args.f r i c.args.p.now.program.formed
-          (conditions_had p c.args.p.now.conditions) (s.starts.holds_none r)) c.in_ok-shared.shared
-          c.part_contents.new.shared c.in_ok-contents.contents.items c.in_ok-shared.ensures.heap
-          (c.in_ok-shared.ensures.common s.procedure s.beginning s.there s.kind) parted;
+      is = made.of;
+      wide = made.wide;
       blank = c.in_ok-blank.ensures ∙ ap (λ n. replicate n nil) fields;
     }
 
 pub returns-clause-contents : goal.returns-clause-contents
 returns-clause-contents c =
-    let p = program_of c.args.p.now.program in
-    let s = c.requires.starts in
-    let parted = subst (λ ps. ArePartedOff p.resources ps (length ps - 1) c.in_ok-shared.shared
-    c.in_ok-contents.contents.items c.part_contents.new.shared) c.deref.ensures.value
-    c.in_ok-contents.ensures in
-    begun-all_in p c.args.p.now.program.formed c.args.f c.args.start.fresh
-    c.args.start.vars c.args.start.heap c.args.start.parts.items s
-    (λ r i. unheld-is_not_free p c.args.f r i c.args.p.now.program.formed
-    (conditions_had p c.args.p.now.conditions) (s.starts.holds_none r)) c.in_ok-shared.shared
-    c.part_contents.new.shared c.in_ok-contents.contents.items c.in_ok-shared.ensures.heap
-    (c.in_ok-shared.ensures.common s.procedure s.beginning s.there s.kind) parted
+    let made = first (goal.at.returns-clause-contents c).After-new-3 in made.contents_in
 
 pub returns-clause-exactly : goal.returns-clause-exactly
 returns-clause-exactly c =
-    let p = program_of c.args.p.now.program in
-    let s = c.requires.starts in
-    let parted = subst (λ ps. ArePartedOff p.resources ps (length ps - 1) c.in_ok-shared.shared
-    c.in_ok-contents.contents.items c.part_contents.new.shared) c.deref.ensures.value
-    c.in_ok-contents.ensures in
-    begun-all_exactly p c.args.p.now.program.formed c.args.f c.args.start.fresh
-    c.args.start.vars c.args.start.heap c.args.start.parts.items s
-    (λ r i. unheld-is_not_free p c.args.f r i c.args.p.now.program.formed
-    (conditions_had p c.args.p.now.conditions) (s.starts.holds_none r)) c.in_ok-shared.shared
-    c.part_contents.new.shared c.in_ok-contents.contents.items c.in_ok-shared.ensures.heap
-    (c.in_ok-shared.ensures.common s.procedure s.beginning s.there s.kind) parted
+    let made = first (goal.at.returns-clause-exactly c).After-new-3 in made.exactly

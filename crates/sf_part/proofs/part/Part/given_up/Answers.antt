@@ -1,4 +1,4 @@
-use Rattle.std.proofs.Common.{ap, ◌∙◌, ◌+◌, ◌∷◌, refl, subst, sym, arith}
+use Rattle.std.proofs.Common.{ap, ◌∙◌, ◌∷◌, refl, subst, sym}
 use Rattle.sf_base.proofs.MapSplits.{splits-has_right}
 use Rattle.sf_core.specs.Machine.Whole.{running}
 use Rattle.sf_frame.specs.Checked.Frames.{moved}
@@ -7,14 +7,11 @@ use Rattle.sf_frame.specs.Stores.{store_of}
 use Rattle.sf_frame.specs.declared.frame.Way.TheVariants.{Past}
 use Rattle.sf_frame.specs.declared.stack.Change.TheVariants.{GoOn}
 use Rattle.sf_heap.specs.Cells.{heap_of}
-use Rattle.sf_part.specs.Checked.Stepping.{own_event}
 use Rattle.sf_part.specs.Keeps.{IsWaiting}
 use Rattle.sf_part.specs.Of.{frames_in}
-use Rattle.sf_part.specs.Parts.{part_with}
-use Rattle.sf_part.specs.PartView.{part_of}
 use Rattle.sf_part.specs.Stands.{stand_in}
+use Rattle.sf_part.proofs.Acted.{acted-keeps}
 use Rattle.sf_part.proofs.GivenUp.{given-after, given-own, given-unmade}
-use Rattle.sf_part.proofs.Performed.{performed-keeps}
 use Rattle.sf_part.proofs.part.Part.given_up.Goals as goal
 
 pub invariant_of-self : goal.invariant_of-self
@@ -27,19 +24,13 @@ invariant_of-self c =
     (common_of c.edit.new.shared) (heap_of c.part_off-heap.result) (store_of c.args.share.store)
     c.args.r c.part_off-heap.ensures.heaps c.cut.ensures refl c.edit.ensures.done in
     record {
-      kept = performed-keeps (own_event c.args.self.now c.next-number.result)
-          c.args.self.now.clock (part_of c.args.self.now)
-          (part_with c.args.self.now.task c.changed.result c.edit.new.shared c.spend.new.self
-          (c.args.self.now.clock + 1) c.args.self.now.keeps c.note.new.log.items
-          c.args.self.now.given)
-          c.args.self.now.kept
+      kept = acted-keeps c.args.self.now c.next-number.result c.changed.result c.edit.new.shared
+          c.spend.new.self c.note.new.log.items
           (c.next-number.ensures ∙ ap (λ z. c.next-number.result ∷ z) (sym c.spend.ensures))
           (λ n there other h. given-unmade (common_of c.args.self.now.shared)
           (common_of c.edit.new.shared) (heap_of c.part_off-heap.result)
           (store_of c.args.share.store) c.args.r n less h)
-          (subst (λ z. IsWaiting z → ⊥) (sym c.changed.ensures) (λ h. h)) (omega arith)
-          c.args.self.now.kept.time.within
-          (record { keeps = refl; given = refl; clock_is = omega arith; log_is = c.note.ensures });
+          (subst (λ z. IsWaiting z → ⊥) (sym c.changed.ensures) (λ h. h)) c.note.ensures;
       own = given-own c.args.self.now.task c.args.self.now.shared c.edit.new.shared
           (heap_of c.part_off-heap.result) (store_of c.args.share.store) c.args.r less
           c.args.self.now.own;

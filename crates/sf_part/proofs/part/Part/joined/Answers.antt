@@ -1,16 +1,16 @@
 use Rattle.std.proofs.Common.{ap, ◌∙◌, ◌+◌, ◌≡◌, refl, subst, sym, arith}
-use Rattle.sf_core.specs.Machine.Config.{Common}
 use Rattle.sf_core.specs.Machine.Whole.{running}
 use Rattle.sf_frame.specs.Commons.{common_of}
 use Rattle.sf_part.specs.Checked.Stepping.{own_event}
-use Rattle.sf_part.specs.Keeps.{IsWaiting, Keeps}
+use Rattle.sf_part.specs.Keeps.{IsWaiting}
 use Rattle.sf_part.specs.Of.{frames_in}
 use Rattle.sf_part.specs.Parts.{part_with}
 use Rattle.sf_part.specs.PartView.{part_of}
 use Rattle.sf_part.specs.Stands.{stand_in}
 use Rattle.sf_part.proofs.Joined.{emptied-keeps, emptied-own, joined-keeps, joined-log, joined-units, same-whole}
-use Rattle.sf_part.proofs.Performed.{on-err, same-common, same-own, same-part}
+use Rattle.sf_part.proofs.Performed.{on-err, same-common, same-own}
 use Rattle.sf_part.proofs.Regained.{three-same}
+use Rattle.sf_part.proofs.Unchanged.{unchanged-kept, unchanged-own, unchanged-part}
 use Rattle.sf_part.proofs.part.Part.joined.Goals as goal
 
 pub invariant_of-self : goal.invariant_of-self
@@ -18,22 +18,14 @@ invariant_of-self c =
     let common : common_of c.take_back.new.shared ≡ common_of c.args.self.now.shared =
     same-common (common_of c.take_back.new.shared) (common_of c.args.self.now.shared)
     c.in_err-take_back.ensures.err in
-    record {
-      kept = subst Keeps
-          (sym (same-part c.args.self.now.task c.args.self.now.stand c.args.self.now.stand
-          c.args.self.now.shared c.take_back.new.shared c.args.self.now.supply
-          c.args.self.now.clock c.args.self.now.keeps c.args.self.now.log.items
-          c.args.self.now.given refl common))
-          c.args.self.now.kept;
-      own = same-own c.args.self.now.task c.args.self.now.shared c.take_back.new.shared
-          (ap (λ (z : Common). z.held) common) c.args.self.now.own;
+    let a = c.args.self.now in record {
+      kept = unchanged-kept a a.stand c.take_back.new.shared refl common;
+      own = unchanged-own a a.stand c.take_back.new.shared refl common;
     }
 
 pub returns-in_err-take_back-clause-err : goal.returns-in_err-take_back-clause-err
 returns-in_err-take_back-clause-err c = on-err c.from_residual.result
-    (same-part c.args.self.now.task c.args.self.now.stand c.args.self.now.stand
-    c.args.self.now.shared c.take_back.new.shared c.args.self.now.supply c.args.self.now.clock
-    c.args.self.now.keeps c.args.self.now.log.items c.args.self.now.given refl
+    (unchanged-part c.args.self.now c.args.self.now.stand c.take_back.new.shared refl
     (same-common (common_of c.take_back.new.shared) (common_of c.args.self.now.shared)
     c.in_err-take_back.ensures.err))
 

@@ -1,15 +1,15 @@
-use Rattle.std.proofs.Common.{ap, inl, inr, ◌∙◌, ◌+◌, ◌≡◌, ◌∷◌, refl, subst, sym, arith}
+use Rattle.std.proofs.Common.{ap, inl, inr, ◌∙◌, ◌≡◌, ◌∷◌, refl, subst, sym}
 use Rattle.sf_core.specs.Machine.Config.{Common}
 use Rattle.sf_core.specs.Machine.Whole.{running}
 use Rattle.sf_frame.specs.Checked.Frames.{moved}
 use Rattle.sf_frame.specs.Commons.{common_of}
-use Rattle.sf_part.specs.Checked.Stepping.{acted, own_event}
-use Rattle.sf_part.specs.Keeps.{IsUnmade, IsWaiting, Keeps}
+use Rattle.sf_part.specs.Checked.Stepping.{acted}
+use Rattle.sf_part.specs.Keeps.{IsUnmade, IsWaiting}
 use Rattle.sf_part.specs.Of.{frames_in}
-use Rattle.sf_part.specs.Parts.{part_with}
-use Rattle.sf_part.specs.PartView.{part_of}
 use Rattle.sf_part.specs.Stands.{stand_in}
-use Rattle.sf_part.proofs.Performed.{on-err, performed-keeps, same-common, same-own, same-part}
+use Rattle.sf_part.proofs.Acted.{acted-keeps}
+use Rattle.sf_part.proofs.Performed.{on-err, same-common, same-own}
+use Rattle.sf_part.proofs.Unchanged.{unchanged-kept, unchanged-own, unchanged-part}
 use Rattle.sf_part.proofs.part.Part.perform.Goals as goal
 
 pub invariant_of-self-in-Break-branch-2 : goal.invariant_of-self-in-Break-branch-2
@@ -17,22 +17,14 @@ invariant_of-self-in-Break-branch-2 c =
     let common : common_of c.apply.new.shared ≡ common_of c.args.self.now.shared =
     same-common (common_of c.apply.new.shared) (common_of c.args.self.now.shared)
     c.in_err-apply.ensures.err in
-    record {
-      kept = subst Keeps
-          (sym (same-part c.args.self.now.task c.args.self.now.stand c.reserve.new.self
-          c.args.self.now.shared c.apply.new.shared c.args.self.now.supply c.args.self.now.clock
-          c.args.self.now.keeps c.args.self.now.log.items c.args.self.now.given
-          c.reserve.ensures.same common))
-          c.args.self.now.kept;
-      own = same-own c.args.self.now.task c.args.self.now.shared c.apply.new.shared
-          (ap (λ (z : Common). z.held) common) c.args.self.now.own;
+    let same = c.reserve.ensures.same in record {
+      kept = unchanged-kept c.args.self.now c.reserve.new.self c.apply.new.shared same common;
+      own = unchanged-own c.args.self.now c.reserve.new.self c.apply.new.shared same common;
     }
 
 pub returns-in_err-apply-clause-err : goal.returns-in_err-apply-clause-err
 returns-in_err-apply-clause-err c = on-err c.from_residual-in_err-apply.result
-    (same-part c.args.self.now.task c.args.self.now.stand c.reserve.new.self c.args.self.now.shared
-    c.apply.new.shared c.args.self.now.supply c.args.self.now.clock c.args.self.now.keeps
-    c.args.self.now.log.items c.args.self.now.given c.reserve.ensures.same
+    (unchanged-part c.args.self.now c.reserve.new.self c.apply.new.shared c.reserve.ensures.same
     (same-common (common_of c.apply.new.shared) (common_of c.args.self.now.shared)
     c.in_err-apply.ensures.err))
 
@@ -42,18 +34,12 @@ invariant_of-self-2 c =
     same-common (common_of c.apply.new.shared) (acted c.args.self.now c.args.number c.args.effect)
     c.in_ok-apply.ensures.ok in
     record {
-      kept = performed-keeps (own_event c.args.self.now c.args.number) c.args.self.now.clock
-          (part_of c.args.self.now)
-          (part_with c.args.self.now.task c.changed.result c.apply.new.shared c.spend.new.self
-          (c.args.self.now.clock + 1) c.args.self.now.keeps c.note.new.log.items
-          c.args.self.now.given)
-          c.args.self.now.kept
+      kept = acted-keeps c.args.self.now c.args.number c.changed.result c.apply.new.shared
+          c.spend.new.self c.note.new.log.items
           (c.requires.next ∙ ap (λ z. c.args.number ∷ z) (sym c.spend.ensures))
           (λ n there other h. subst (λ (z : Common). IsUnmade z.heap z.store n) (sym common)
           (c.requires.own.unmade n other h))
-          (subst (λ z. IsWaiting z → ⊥) (sym c.changed.ensures) (λ h. h)) (omega arith)
-          c.args.self.now.kept.time.within
-          (record { keeps = refl; given = refl; clock_is = omega arith; log_is = c.note.ensures });
+          (subst (λ z. IsWaiting z → ⊥) (sym c.changed.ensures) (λ h. h)) c.note.ensures;
       own = same-own c.args.self.now.task c.args.self.now.shared c.apply.new.shared
           (ap (λ (z : Common). z.held) common ∙ c.requires.own.held) c.args.self.now.own;
     }

@@ -1,7 +1,6 @@
 use Rattle.std.specs.List.{AllByRecursion}
 use Rattle.std.proofs.Common.{Err, ap, ◌∙◌, ◌+◌, ◌≡◌, ◌∷◌, length, refl, reverse, subst, sym, arith}
 use Rattle.std.proofs.lemmas.List.{reverse-reverse}
-use Rattle.sf_core.specs.Machine.Config.{Common}
 use Rattle.sf_core.specs.Machine.Whole.{running}
 use Rattle.sf_core.specs.Program.ProgramView.{program_of}
 use Rattle.sf_frame.specs.Checked.Frames.{moved}
@@ -13,16 +12,15 @@ use Rattle.sf_part.specs.Checked.Handing.{Hands, HaveStamp, timed_of}
 use Rattle.sf_part.specs.Given.{IsContentOf}
 use Rattle.sf_part.specs.Steps.{AreFrom}
 use Rattle.sf_part.specs.Timed.{TimedContent}
-use Rattle.sf_part.specs.Checked.Stepping.{own_event}
 use Rattle.sf_part.specs.declared.content.Content.{Content}
 use Rattle.sf_part.specs.declared.fault.PartFault.TheVariants.{NoFootprint}
-use Rattle.sf_part.specs.Keeps.{IsWaiting, Keeps}
+use Rattle.sf_part.specs.Keeps.{IsWaiting}
 use Rattle.sf_part.specs.Of.{frames_in}
-use Rattle.sf_part.specs.Parts.{part_with}
-use Rattle.sf_part.specs.PartView.{part_of}
 use Rattle.sf_part.specs.Stands.{stand_in}
+use Rattle.sf_part.proofs.Acted.{acted-keeps}
 use Rattle.sf_part.proofs.HandedOut.{hands-held, hands-none, hands-rest, hands-unmade}
-use Rattle.sf_part.proofs.Performed.{performed-keeps, same-common, same-own, same-part}
+use Rattle.sf_part.proofs.Performed.{same-common}
+use Rattle.sf_part.proofs.Unchanged.{unchanged-kept, unchanged-own, unchanged-part}
 use Rattle.sf_part.proofs.part.Part.settled.Goals as goal
 
 pub give_from-requires-clause-apart : goal.give_from-requires-clause-apart
@@ -33,15 +31,9 @@ invariant_of-self c =
     let common : common_of c.give_from.new.shared ≡ common_of c.args.self.now.shared =
     same-common (common_of c.give_from.new.shared) (common_of c.args.self.now.shared)
     c.in-Err.ensures.err in
-    record {
-      kept = subst Keeps
-          (sym (same-part c.args.self.now.task c.args.self.now.stand c.args.self.now.stand
-          c.args.self.now.shared c.give_from.new.shared c.args.self.now.supply
-          c.args.self.now.clock c.args.self.now.keeps c.args.self.now.log.items
-          c.args.self.now.given refl common))
-          c.args.self.now.kept;
-      own = same-own c.args.self.now.task c.args.self.now.shared c.give_from.new.shared
-          (ap (λ (z : Common). z.held) common) c.args.self.now.own;
+    let a = c.args.self.now in record {
+      kept = unchanged-kept a a.stand c.give_from.new.shared refl common;
+      own = unchanged-own a a.stand c.give_from.new.shared refl common;
     }
 
 pub returns-in-Err-clause-none : goal.returns-in-Err-clause-none
@@ -52,9 +44,7 @@ returns-in-Err-clause-none c = λ e.
 
 pub returns-in-Err-clause-err : goal.returns-in-Err-clause-err
 returns-in-Err-clause-err c =
-    same-part c.args.self.now.task c.args.self.now.stand c.args.self.now.stand
-    c.args.self.now.shared c.give_from.new.shared c.args.self.now.supply c.args.self.now.clock
-    c.args.self.now.keeps c.args.self.now.log.items c.args.self.now.given refl
+    unchanged-part c.args.self.now c.args.self.now.stand c.give_from.new.shared refl
     (same-common (common_of c.give_from.new.shared) (common_of c.args.self.now.shared)
     c.in-Err.ensures.err)
 
@@ -65,18 +55,12 @@ invariant_of-self-2 c =
     (common_of c.edit.new.shared) (timed_of given.contents) (room_of c.args.room) given.hands
     c.edit.ensures.done in
     record {
-      kept = performed-keeps (own_event c.args.self.now c.next-number.result)
-          c.args.self.now.clock (part_of c.args.self.now)
-          (part_with c.args.self.now.task c.changed.result c.edit.new.shared c.spend.new.self
-          (c.args.self.now.clock + 1) c.args.self.now.keeps c.note.new.log.items
-          c.args.self.now.given)
-          c.args.self.now.kept
+      kept = acted-keeps c.args.self.now c.next-number.result c.changed.result c.edit.new.shared
+          c.spend.new.self c.note.new.log.items
           (c.next-number.ensures ∙ ap (λ z. c.next-number.result ∷ z) (sym c.spend.ensures))
           (λ n there other h. hands-unmade (common_of c.args.self.now.shared)
           (common_of c.edit.new.shared) (timed_of given.contents) (room_of c.args.room) n rest h)
-          (subst (λ z. IsWaiting z → ⊥) (sym c.changed.ensures) (λ h. h)) (omega arith)
-          c.args.self.now.kept.time.within
-          (record { keeps = refl; given = refl; clock_is = omega arith; log_is = c.note.ensures });
+          (subst (λ z. IsWaiting z → ⊥) (sym c.changed.ensures) (λ h. h)) c.note.ensures;
       own = hands-held c.args.self.now.task c.edit.new.shared rest.held;
     }
 
