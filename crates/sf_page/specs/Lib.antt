@@ -1,0 +1,5 @@
+pub mod Checked
+pub mod Escaped
+pub mod Fixed
+pub mod Markup
+pub mod Written
