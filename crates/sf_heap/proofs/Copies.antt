@@ -52,9 +52,9 @@ none≢some x xs is = omega (arith, ap length is)
 pub copied-kept : (hand cells from_hand from_cells : Tree) → cells_of (tops hand) ≡ cells_of (tops from_hand)
     → cells_of (entries_of cells) ≡ cells_of (entries_of from_cells) → AreKept from_hand from_cells → AreKept hand cells
 copied-kept Empty cells Empty from_cells top is k = copied-Rises _ _ is k
-copied-kept Empty cells (Fork' p e h b a) from_cells top is k = copied-Rises _ _ is k.0
-copied-kept (Fork' q f i c d) cells Empty from_cells top is k = absurd (none≢some _ _ (sym top))
-copied-kept (Fork' q f i c d) cells (Fork' p e h b a) from_cells top is k =
+copied-kept Empty cells (Fork' h p e b a) from_cells top is k = copied-Rises _ _ is k.0
+copied-kept (Fork' i q f c d) cells Empty from_cells top is k = absurd (none≢some _ _ (sym top))
+copied-kept (Fork' i q f c d) cells (Fork' h p e b a) from_cells top is k =
     (copied-Rises _ _ is k.0, ap₂ (λ at ps. find nat_cmp at ps) (ap first_key top) is ∙ k.1)
 
 copied-cells : (hand cells from_hand from_cells : Tree) → cells_of (tops hand) ≡ cells_of (tops from_hand)

@@ -18,7 +18,7 @@ use Rattle.sf_heap.proofs.Entries.{get-map_of, len-map_of, map-other}
 -- the map has as many cells as are kept
 pub kept-len : (hand cells : Tree) → AreKept hand cells → len (map_of (kept hand cells)) ≡ length (kept hand cells)
 kept-len Empty cells k = len-map_of (entries_of cells) k
-kept-len (Fork' p e h b a) cells k =
+kept-len (Fork' h p e b a) cells k =
     len-insert nat_cmp_total (map_of (entries_of cells)) e.at e.cell
     ∙ ap (λ o. cond (is_some o) (len (map_of (entries_of cells))) (len (map_of (entries_of cells)) + 1))
     (get-map_of (entries_of cells) e.at ∙ k.1)
@@ -27,17 +27,17 @@ kept-len (Fork' p e h b a) cells k =
 -- another cell on top of what is in hand leaves the others as they are
 pub kept-lent : (hand cells : Tree) (w : FieldValues) → AreKept hand cells → AreKept (top_set hand w) cells
 kept-lent Empty cells w k = k
-kept-lent (Fork' p e h b a) cells w k = k
+kept-lent (Fork' h p e b a) cells w k = k
 
 pub kept-count : (hand cells : Tree) (w : FieldValues) → length (kept (top_set hand w) cells) ≡ length (kept hand cells)
 kept-count Empty cells w = refl
-kept-count (Fork' p e h b a) cells w = refl
+kept-count (Fork' h p e b a) cells w = refl
 
 -- and is the map with that cell
 pub kept-set : (hand cells : Tree) (at : ℕ) (w : FieldValues) → IsTrue (is_some (found at (tops hand)))
     → map_of (kept (top_set hand w) cells) ≡ insert (map_of (kept hand cells)) at w
 kept-set Empty cells at w there = absurd (false≢true there)
-kept-set (Fork' p e h b a) cells at w there = elim (cases_eq at e.at) [
+kept-set (Fork' h p e b a) cells at w there = elim (cases_eq at e.at) [
   | inl same ↦ map-other [] e (other_cell e w) (entries_of cells) tt refl
       ∙ ap (λ k. insert (map_of (e ∷ entries_of cells)) k w) (sym same)
   | inr other ↦ absurd (false≢true (ap is_some (sym (at-other at e.at _ _ other)) ∙ there))
@@ -46,7 +46,7 @@ kept-set (Fork' p e h b a) cells at w there = elim (cases_eq at e.at) [
 -- what is found in hand is on top
 pub top_found : (hand : Tree) (at : ℕ) → IsTrue (is_some (found at (tops hand))) → top_of hand ≡ found at (tops hand)
 top_found Empty at there = refl
-top_found (Fork' p e h b a) at there = elim (cases_eq at e.at) [
+top_found (Fork' h p e b a) at there = elim (cases_eq at e.at) [
   | inl same ↦ sym (at-same at e.at _ _ same)
   | inr other ↦ absurd (false≢true (ap is_some (sym (at-other at e.at _ _ other)) ∙ there))
 ]

@@ -5,3 +5,4 @@ pub mod Lemmas
 pub mod Lending
 pub mod Moves
 pub mod Trees
+pub mod Values

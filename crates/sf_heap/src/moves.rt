@@ -17,7 +17,7 @@ pub(crate) fn whole(hand: Tree, mut cells: Tree) -> Tree
     ensures same { map_of (entries_of result) ≡ map_of (kept hand cells) }
     ensures size { length (entries_of result) ≡ length (kept hand cells) }
 {
-    if let Tree::Fork(node) = hand {
+    if let Tree::Fork(_, node) = hand {
         cells.put_in(node);
     }
     cells
@@ -37,7 +37,7 @@ pub(crate) fn brought(hand: Tree, cells: Tree, at: u64) -> (Tree, Tree)
     let mut cells = whole(hand, cells);
     let (taken, _) = cells.take_out(at);
     match taken {
-        Some(node) => (Tree::Fork(node), cells),
+        Some(node) => (Tree::Fork(1, node), cells),
         None => (Tree::Empty, cells),
     }
 }
@@ -63,7 +63,7 @@ fn poured(from: Tree, into: Tree) -> Tree
     requires apart { AreApart (entries_of into) (entries_of from) }
     ensures { IsMerge (entries_of into) (entries_of from) (entries_of result) }
 {
-    let Tree::Fork(node) = from else {
+    let Tree::Fork(_, node) = from else {
         return into;
     };
     let (below, node, above) = opened(node);
@@ -109,7 +109,7 @@ fn moved(mut part: Tree, mut rest: Tree, at: u64) -> (Tree, Tree)
 pub(crate) fn top_misses(hand: &Tree, heap: &Heap) -> bool
     ensures { IsTrue result ↔ AreClear (map.get heap.now) (tops hand.now) }
 {
-    let Tree::Fork(node) = hand else {
+    let Tree::Fork(_, node) = hand else {
         return true;
     };
     heap.get(node.entry.at).is_none()
@@ -119,7 +119,7 @@ pub(crate) fn top_misses(hand: &Tree, heap: &Heap) -> bool
 pub(crate) fn misses(cells: &Tree, heap: &Heap) -> bool
     ensures { IsTrue result ↔ AreClear (map.get heap.now) (entries_of cells.now) }
 {
-    let Tree::Fork(node) = cells else {
+    let Tree::Fork(_, node) = cells else {
         return true;
     };
     if !misses(&node.below, heap) {

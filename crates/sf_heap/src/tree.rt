@@ -18,12 +18,13 @@ pub(crate) struct Entry {
     pub(crate) cell: Cell,
 }
 
-/// Cells in order of location: none, or a fork.
+/// Cells in order of location: none, or a fork, beside whose link its height stands: so heights are
+/// compared without a look at the nodes, and a node is smaller.
 #[cycle(tree)]
 #[derive(Debug, Drop)]
 pub(crate) enum Tree {
     Empty,
-    Fork(Box<Node>),
+    Fork(u8, Box<Node>),
 }
 
 /// A cell with those below it and those above it. The heights of the two sides differ by one at
@@ -32,7 +33,6 @@ pub(crate) enum Tree {
 #[derive(Debug, Drop)]
 pub(crate) struct Node {
     pub(crate) entry: Entry,
-    height: u8,
     pub(crate) below: Tree,
     pub(crate) above: Tree,
 }
@@ -44,7 +44,6 @@ impl Node {
     {
         Node {
             entry,
-            height: 1,
             below: Tree::Empty,
             above: Tree::Empty,
         }
@@ -76,7 +75,7 @@ impl Tree {
     fn height(&self) -> u8 {
         match self {
             Tree::Empty => 0,
-            Tree::Fork(node) => node.height,
+            Tree::Fork(height, _) => *height,
         }
     }
 
@@ -86,18 +85,17 @@ impl Tree {
             (λ t. cells_of (entries_of t) ≡ cells_of (entries_of self.now)) }
         ensures top { IfOk result (λ t. cells_of (tops t) ≡ cells_of (tops self.now)) }
     {
-        let Tree::Fork(node) = self else {
+        let Tree::Fork(height, node) = self else {
             return Ok(Tree::Empty);
         };
         let below = node.below.copy(alloc)?;
         let above = node.above.copy(alloc)?;
         let node = Node {
             entry: node.entry.copy(alloc)?,
-            height: node.height,
             below,
             above,
         };
-        Ok(Tree::Fork(Box::new(alloc, node)?))
+        Ok(Tree::Fork(*height, Box::new(alloc, node)?))
     }
 
     /// The cell at a location, or `None` exactly where there is none.
@@ -106,7 +104,7 @@ impl Tree {
         ensures { option_copied result ≡ found at (entries_of self.now) }
     {
         let mut tree = self;
-        while let Tree::Fork(node) = tree {
+        while let Tree::Fork(_, node) = tree {
             if at == node.entry.at {
                 return Some(&node.entry.cell);
             }
@@ -123,7 +121,7 @@ impl Tree {
     pub(crate) fn top_at(&self, at: u64) -> Option<&Cell>
         ensures { option_copied result ≡ found at (tops self.now) }
     {
-        let Tree::Fork(node) = self else {
+        let Tree::Fork(_, node) = self else {
             return None;
         };
         if node.entry.at == at {
@@ -139,7 +137,7 @@ impl Tree {
     {
         match self {
             Tree::Empty => None,
-            Tree::Fork(node) => Some(node.entry.cell_mut()),
+            Tree::Fork(_, node) => Some(node.entry.cell_mut()),
         }
     }
 
@@ -149,17 +147,17 @@ impl Tree {
         requires absent { found new.value.entry.at (entries_of self.old) ≡ None }
         ensures { IsMore (entries_of self.old) new.value.entry (entries_of self.new) }
     {
-        let Tree::Fork(mut node) = replace(self, Tree::Empty) else {
-            *self = Tree::Fork(flat(new, Tree::Empty, Tree::Empty));
+        let Tree::Fork(height, mut node) = replace(self, Tree::Empty) else {
+            *self = fork(flat(new, Tree::Empty, Tree::Empty));
             return true;
         };
         if new.entry.at < node.entry.at {
             let is_higher = node.below.put_in(new);
-            *self = Tree::Fork(node);
+            *self = Tree::Fork(height, node);
             return is_higher && self.mend();
         }
         let is_higher = node.above.put_in(new);
-        *self = Tree::Fork(node);
+        *self = Tree::Fork(height, node);
         is_higher && self.mend()
     }
 
@@ -172,20 +170,19 @@ impl Tree {
         ensures taken { IfSome result.0 (λ node.
             IsTaken (entries_of self.old) at node.value.entry (entries_of self.new)) }
     {
-        let Tree::Fork(mut node) = replace(self, Tree::Empty) else {
+        let Tree::Fork(height, mut node) = replace(self, Tree::Empty) else {
             return (None, false);
         };
         if at < node.entry.at {
             let (taken, is_lower) = node.below.take_out(at);
-            *self = Tree::Fork(node);
+            *self = Tree::Fork(height, node);
             return (taken, is_lower && self.mend());
         }
         if node.entry.at < at {
             let (taken, is_lower) = node.above.take_out(at);
-            *self = Tree::Fork(node);
+            *self = Tree::Fork(height, node);
             return (taken, is_lower && self.mend());
         }
-        let height = node.height;
         let (below, node, above) = opened(node);
         *self = below.then(above);
         (Some(node), self.height() != height)
@@ -196,13 +193,27 @@ impl Tree {
     fn mend(&mut self) -> bool
         ensures { entries_of self.new ≡ entries_of self.old }
     {
-        let height = self.height();
-        let Tree::Fork(node) = replace(self, Tree::Empty) else {
+        let Tree::Fork(height, node) = self else {
             return false;
         };
-        let (below, node, above) = opened(node);
-        *self = Tree::Fork(balanced(node, below, above));
-        self.height() != height
+        let before = *height;
+        let (left, right) = (node.below.height(), node.above.height());
+        if left.saturating_add(1) < right || right.saturating_add(1) < left {
+            self.turn();
+            return self.height() != before;
+        }
+        *height = left.max(right).saturating_add(1);
+        *height != before
+    }
+
+    /// Brings the heights of the two sides together, where they differ by two.
+    fn turn(&mut self)
+        ensures { entries_of self.new ≡ entries_of self.old }
+    {
+        if let Tree::Fork(_, node) = replace(self, Tree::Empty) {
+            let (below, node, above) = opened(node);
+            *self = fork(balanced(node, below, above));
+        }
     }
 
     /// These cells and those of another tree, which come after them. The heights of the two differ
@@ -210,14 +221,14 @@ impl Tree {
     fn then(self, above: Tree) -> Tree
         ensures { entries_of result ≡ entries_of self ++ entries_of above }
     {
-        let Tree::Fork(node) = above else {
+        let Tree::Fork(_, node) = above else {
             return self;
         };
         if let Tree::Empty = self {
-            return Tree::Fork(node);
+            return fork(node);
         }
         let (first, rest) = split_first(node);
-        Tree::Fork(balanced(first, self, rest))
+        fork(balanced(first, self, rest))
     }
 
     /// Notes the location of the cell on top, if there is one. An `Err` says that memory ran out.
@@ -225,7 +236,7 @@ impl Tree {
         ensures { OnOk result
             (numbers.new.items ≡ numbers.old.items ++ places (tops self.now)) }
     {
-        let Tree::Fork(node) = self else {
+        let Tree::Fork(_, node) = self else {
             return Ok(());
         };
         numbers.push(node.entry.at)?;
@@ -237,7 +248,7 @@ impl Tree {
         ensures { OnOk result
             (numbers.new.items ≡ numbers.old.items ++ places (entries_of self.now)) }
     {
-        let Tree::Fork(node) = self else {
+        let Tree::Fork(_, node) = self else {
             return Ok(());
         };
         node.below.note(numbers)?;
@@ -266,11 +277,18 @@ pub(crate) fn opened(mut node: Box<Node>) -> (Tree, Box<Node>, Tree)
     (below, node, above)
 }
 
+/// A tree of a node's cells.
+fn fork(node: Box<Node>) -> Tree
+    ensures { entries_of result ≡ entries_in node.value }
+{
+    let height = node.below.height().max(node.above.height());
+    Tree::Fork(height.saturating_add(1), node)
+}
+
 /// A node's cell with other cells below it and above it, where no height is to be mended.
 fn flat(mut node: Box<Node>, below: Tree, above: Tree) -> Box<Node>
     ensures { entries_in result.value ≡ entries_of below ++ node.value.entry ∷ entries_of above }
 {
-    node.height = below.height().max(above.height()).saturating_add(1);
     node.below = below;
     node.above = above;
     node
@@ -294,28 +312,28 @@ fn balanced(node: Box<Node>, below: Tree, above: Tree) -> Box<Node>
 fn leaning_left(node: Box<Node>, below: Tree, above: Tree) -> Box<Node>
     ensures { entries_in result.value ≡ entries_of below ++ node.value.entry ∷ entries_of above }
 {
-    let Tree::Fork(top) = below else {
+    let Tree::Fork(_, top) = below else {
         return flat(node, Tree::Empty, above);
     };
     let (outer, top, inner) = opened(top);
     if outer.height() < inner.height() {
         return raised_between(top, outer, inner, node, above);
     }
-    flat(top, outer, Tree::Fork(flat(node, inner, above)))
+    flat(top, outer, fork(flat(node, inner, above)))
 }
 
 /// The same where the cells above are two levels higher.
 fn leaning_right(node: Box<Node>, below: Tree, above: Tree) -> Box<Node>
     ensures { entries_in result.value ≡ entries_of below ++ node.value.entry ∷ entries_of above }
 {
-    let Tree::Fork(top) = above else {
+    let Tree::Fork(_, top) = above else {
         return flat(node, below, Tree::Empty);
     };
     let (inner, top, outer) = opened(top);
     if outer.height() < inner.height() {
         return raised_between(node, below, inner, top, outer);
     }
-    flat(top, Tree::Fork(flat(node, below, inner)), outer)
+    flat(top, fork(flat(node, below, inner)), outer)
 }
 
 /// The cells below a node's cell, that cell, those between it and another one, that one, and those
@@ -330,12 +348,12 @@ fn raised_between(
     ensures { entries_in result.value ≡ entries_of below ++ low.value.entry
         ∷ (entries_of between ++ high.value.entry ∷ entries_of above) }
 {
-    let Tree::Fork(top) = between else {
-        return flat(low, below, Tree::Fork(flat(high, Tree::Empty, above)));
+    let Tree::Fork(_, top) = between else {
+        return flat(low, below, fork(flat(high, Tree::Empty, above)));
     };
     let (left, top, right) = opened(top);
-    let below = Tree::Fork(flat(low, below, left));
-    flat(top, below, Tree::Fork(flat(high, right, above)))
+    let below = fork(flat(low, below, left));
+    flat(top, below, fork(flat(high, right, above)))
 }
 
 /// The first cell of a node's, and the others.
@@ -343,9 +361,9 @@ fn split_first(node: Box<Node>) -> (Box<Node>, Tree)
     ensures { entries_in node.value ≡ result.0.value.entry ∷ entries_of result.1 }
 {
     let (below, node, above) = opened(node);
-    let Tree::Fork(below) = below else {
+    let Tree::Fork(_, below) = below else {
         return (node, above);
     };
     let (first, below) = split_first(below);
-    (first, Tree::Fork(balanced(node, below, above)))
+    (first, fork(balanced(node, below, above)))
 }

@@ -17,12 +17,12 @@ other_cell e w = record e { cell = w }
 -- the cell on top of a tree
 abbrev pub top_of : Tree → Option FieldValues
 top_of Empty = None
-top_of (Fork' p e height below above) = Some e.cell
+top_of (Fork' height p e below above) = Some e.cell
 
 -- the tree with another cell on top
 abbrev pub top_set : Tree → FieldValues → Tree
 top_set Empty w = Empty
-top_set (Fork' p e height below above) w = Fork' p (other_cell e w) height below above
+top_set (Fork' height p e below above) w = Fork' height p (other_cell e w) below above
 
 -- the entry ends with the last cell that was written through r
 abbrev pub LendsIts : MutBor Entry → MutBor (FieldValues) → Fml

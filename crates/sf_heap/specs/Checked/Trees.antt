@@ -10,7 +10,7 @@ use Rattle.sf_heap.specs.Checked.Entries.{AllAbove, AllBelow, Rises, found}
 -- the entries from the left to the right
 abbrev pub entries_of : Tree → List Entry
 entries_of Empty = []
-entries_of (Fork' p e height below above) = entries_of below ++ e ∷ entries_of above
+entries_of (Fork' height p e below above) = entries_of below ++ e ∷ entries_of above
 
 -- those of a node
 abbrev pub entries_in : Node → List Entry
@@ -19,7 +19,7 @@ entries_in n = entries_of n.below ++ n.entry ∷ entries_of n.above
 -- the entry on top
 abbrev pub tops : Tree → List Entry
 tops Empty = []
-tops (Fork' p e height below above) = e ∷ []
+tops (Fork' height p e below above) = e ∷ []
 
 -- the entries of what is in hand and of the others
 abbrev pub kept : (hand cells : Tree) → List Entry
@@ -28,7 +28,7 @@ kept hand cells = tops hand ++ entries_of cells
 -- the others are in order, and none is at the location of what is in hand
 abbrev pub AreKept : (hand cells : Tree) → Type 0
 AreKept Empty cells = Rises (entries_of cells)
-AreKept (Fork' p e height below above) cells = Rises (entries_of cells) × (found e.at (entries_of cells) ≡ None)
+AreKept (Fork' height p e below above) cells = Rises (entries_of cells) × (found e.at (entries_of cells) ≡ None)
 
 -- the entries with one more, at its place
 pub record IsMore (old : List Entry) (e : Entry) (new : List Entry) : Type 0 where
