@@ -12,27 +12,13 @@ mod heaps;
 use crate::assertions::{cells, double, list, tree};
 use crate::heaps::{LastLinks, chained, doubled, listed, rooted};
 use sf_base::Value;
+use sf_cases::case_and_count;
 use sf_core::Assertion;
 use sf_foot::{Vars, footprint};
 use sf_heap::Heap;
 use sf_precise::order;
 use std::alloc::{AllocError, Global};
-use std::process::ExitCode;
-use std::{env, io};
-
-/// The case and the number of cells, which are the words; without them a small list.
-fn wanted(rt: &HostRuntime) -> io::Result<(String, u32)> {
-    let mut words = env::args(rt)?;
-    let case = match words.nth(1) {
-        Some(word) => word,
-        None => String::from_str(rt.alloc(), "ordered")?,
-    };
-    let count = match words.next() {
-        Some(word) => word.as_str().parse::<u32>().unwrap_or(10),
-        None => 10,
-    };
-    Ok((case, count))
-}
+use std::io;
 
 /// The heap of a case with a doubly linked list whose last cell leads on to that value, and the
 /// assertion that is looked for. Where the links aren't right it leads back to nil.
@@ -84,22 +70,13 @@ fn found(
     Ok(at.map(|locations| locations.len()))
 }
 
-fn main(rt: HostRuntime) -> ExitCode {
-    let Ok((case, count)) = wanted(&rt) else {
-        return ExitCode::from(1);
-    };
-    let Ok((heap, a)) = made(rt.alloc(), case.as_str(), count) else {
-        return ExitCode::from(1);
-    };
+fn main(rt: HostRuntime) -> io::Result<()> {
+    let (case, count) = case_and_count(&rt, "ordered", 10)?;
+    let (heap, a) = made(rt.alloc(), case.as_str(), count)?;
     // With no case of that name only the heap is made.
     if case.as_str() == "heap" {
-        return ExitCode::from(0);
+        return Ok(());
     }
-    let Ok(locations) = found(rt.alloc(), &heap, count, &a) else {
-        return ExitCode::from(1);
-    };
-    match println!(rt; "{locations:?}") {
-        Ok(()) => ExitCode::from(0),
-        Err(_) => ExitCode::from(1),
-    }
+    let locations = found(rt.alloc(), &heap, count, &a)?;
+    println!(rt; "{locations:?}")
 }

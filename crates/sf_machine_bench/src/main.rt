@@ -13,25 +13,10 @@ mod running;
 use crate::plain::plain_start;
 use crate::programs::program_of_case;
 use crate::running::run;
+use sf_cases::case_and_count;
 use sf_machine::begin_with;
 use std::alloc::{AllocError, Global};
-use std::process::ExitCode;
-use std::{env, io};
-
-/// The case and how many events, which are the words; without them a thousand events of the first
-/// program.
-fn wanted(rt: &HostRuntime) -> io::Result<(String, u64)> {
-    let mut words = env::args(rt)?;
-    let case = match words.nth(1) {
-        Some(word) => word,
-        None => String::from_str(rt.alloc(), "assignments")?,
-    };
-    let count = match words.next() {
-        Some(word) => word.as_str().parse::<u64>().unwrap_or(1000),
-        None => 1000,
-    };
-    Ok((case, count))
-}
+use std::io;
 
 /// How many events the program of a case made. None are made where it isn't one that starts with
 /// nothing.
@@ -49,15 +34,8 @@ fn made(alloc: Global, case: &str, count: u64) -> Result<u64, AllocError> {
     run(alloc, &p, c, count)
 }
 
-fn main(rt: HostRuntime) -> ExitCode {
-    let Ok((case, count)) = wanted(&rt) else {
-        return ExitCode::from(1);
-    };
-    let Ok(made) = made(rt.alloc(), case.as_str(), count) else {
-        return ExitCode::from(1);
-    };
-    match println!(rt; "{made}") {
-        Ok(()) => ExitCode::from(0),
-        Err(_) => ExitCode::from(1),
-    }
+fn main(rt: HostRuntime) -> io::Result<()> {
+    let (case, count) = case_and_count(&rt, "assignments", 1000)?;
+    let made = made(rt.alloc(), case.as_str(), count as u64)?;
+    println!(rt; "{made}")
 }

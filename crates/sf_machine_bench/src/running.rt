@@ -1,6 +1,6 @@
 //! The events.
 
-ghost use Rattle.std.specs.Prelude.{◌≡◌, length};
+ghost use Rattle.std.specs.Prelude.{◌≡◌, length, IfOk};
 ghost use Rattle.sf_core.specs.Program.ProgramView.{program_of};
 ghost use Rattle.sf_machine.specs.Configs.{config_of, IsWide};
 ghost use Rattle.sf_machine.specs.Reached.{IsReached};
@@ -21,12 +21,7 @@ pub fn run<'p>(
     requires reached { IsReached (program_of p.now) (config_of c) }
     requires wide { IsWide (program_of p.now) c }
 {
-    let mut event = Event {
-        task: TaskPath::entry(),
-        number: 0,
-        at: 0,
-        fields: Cell::new(alloc, p.fields.len())?,
-    };
+    let mut event = blank(alloc, p)?;
     for made in 0..count {
         event.number = made + 1;
         event.at = made + 1;
@@ -35,6 +30,19 @@ pub fn run<'p>(
         }
     }
     Ok(count)
+}
+
+/// An event of the entry's task without a number, with the program's fields.
+fn blank(alloc: Global, p: &Program) -> Result<Event, AllocError>
+    ensures { IfOk result (λ event. length event.fields ≡ length p.now.fields.items) }
+{
+    let fields = Cell::new(alloc, p.fields.len())?;
+    Ok(Event {
+        task: TaskPath::entry(),
+        number: 0,
+        at: 0,
+        fields,
+    })
 }
 
 /// Makes an event of the entry's task, or of one of its children.
@@ -66,8 +74,6 @@ fn moves<'p>(p: &'p Program, c: &mut Config<'p>, event: &Event) -> Result<bool, 
     ensures reached { IsReached (program_of p.now) (config_of c.new) }
     ensures wide { IsWide (program_of p.now) c.new }
 {
-    match step(p, c, event)? {
-        Stepped::Moved => Ok(true),
-        _ => Ok(false),
-    }
+    let stepped = step(p, c, event)?;
+    Ok(matches!(stepped, Stepped::Moved))
 }

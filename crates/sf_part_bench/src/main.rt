@@ -11,24 +11,9 @@ mod texts;
 
 use crate::running::{events, forks, visits};
 use crate::texts::file_of;
+use sf_cases::case_and_count;
 use std::alloc::{AllocError, Global};
 use std::process::ExitCode;
-use std::{env, io};
-
-/// The case and how many events or cells, which are the words; without them a thousand events of
-/// the first program.
-fn wanted(rt: &HostRuntime) -> io::Result<(String, u32)> {
-    let mut words = env::args(rt)?;
-    let case = match words.nth(1) {
-        Some(word) => word,
-        None => String::from_str(rt.alloc(), "assignments")?,
-    };
-    let count = match words.next() {
-        Some(word) => word.as_str().parse::<u32>().unwrap_or(1000),
-        None => 1000,
-    };
-    Ok((case, count))
-}
 
 /// How often the program of a case did what is counted, if it starts.
 fn made(alloc: Global, case: &str, count: u32) -> Result<Option<u64>, AllocError> {
@@ -40,7 +25,7 @@ fn made(alloc: Global, case: &str, count: u32) -> Result<Option<u64>, AllocError
 }
 
 fn main(rt: HostRuntime) -> ExitCode {
-    let Ok((case, count)) = wanted(&rt) else {
+    let Ok((case, count)) = case_and_count(&rt, "assignments", 1000) else {
         return ExitCode::from(1);
     };
     let Ok(Some(made)) = made(rt.alloc(), case.as_str(), count) else {

@@ -52,10 +52,9 @@ pub fn visits(alloc: Global, cells: u32) -> Result<Option<u64>, AllocError> {
         return Ok(None);
     };
     let text = visits_state(alloc, cells)?;
-    let Some(at) = sit(alloc, &p, "run", text.as_slice(), UNITS, false)? else {
+    let Some(mut at) = sit(alloc, &p, "run", text.as_slice(), UNITS, false)? else {
         return Ok(None);
     };
-    let mut at = at;
     for made in 0..VISITS_MADE {
         let (next, other) = first_other(at, &VISIT)?;
         at = next;
@@ -73,10 +72,9 @@ pub fn forks(alloc: Global, cells: u32) -> Result<Option<u64>, AllocError> {
         return Ok(None);
     };
     let text = list_state(alloc, cells)?;
-    let Some(at) = sit(alloc, &p, "run", text.as_slice(), UNITS, false)? else {
+    let Some(mut at) = sit(alloc, &p, "run", text.as_slice(), UNITS, false)? else {
         return Ok(None);
     };
-    let mut at = at;
     for made in 0..FORKS_MADE {
         let Some(next) = forked(at)? else {
             return Ok(Some(made));

@@ -11,26 +11,12 @@ mod texts;
 
 use crate::files::fitted;
 use crate::texts::{listed, reversed};
+use sf_cases::case_and_count;
 use sf_foot::Start;
 use sf_precise::Arranged;
 use sf_state::{StartFault, entry, read};
 use std::alloc::{AllocError, Global};
 use std::process::ExitCode;
-use std::{env, io};
-
-/// The case and the number of cells, which are the words; without them a small one.
-fn wanted(rt: &HostRuntime) -> io::Result<(String, u32)> {
-    let mut words = env::args(rt)?;
-    let case = match words.nth(1) {
-        Some(word) => word,
-        None => String::from_str(rt.alloc(), "random")?,
-    };
-    let count = match words.next() {
-        Some(word) => word.as_str().parse::<u32>().unwrap_or(10),
-        None => 10,
-    };
-    Ok((case, count))
-}
 
 /// The text of a case.
 fn made(alloc: Global, case: &str, count: u32) -> Result<Vec<u8>, AllocError> {
@@ -48,7 +34,7 @@ fn started(alloc: Global, p: &Arranged, text: &[u8]) -> Result<Start, StartFault
 }
 
 fn main(rt: HostRuntime) -> ExitCode {
-    let Ok((case, count)) = wanted(&rt) else {
+    let Ok((case, count)) = case_and_count(&rt, "random", 10) else {
         return ExitCode::from(1);
     };
     let Some(p) = fitted(rt.alloc(), b"walk(p;) [list(p)] { }") else {
