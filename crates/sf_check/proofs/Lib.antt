@@ -4,4 +4,5 @@ pub mod Refusing
 pub mod Walking
 pub mod Exactly
 pub mod ProvenHad
+pub mod Begun
 pub mod Closing

@@ -2,7 +2,6 @@
 -- Names: `CHANGE-shaped`.
 use Rattle.std.specs.List.{AllByRecursion}
 use Rattle.std.proofs.Common.{◌≡◌, ℕ, ◌+◌, ◌<◌, ◌≤◌, ◌==◌, Bool, true, false, cond, map, List, [], ◌∷◌, ◌++◌, refl, sym, ap, subst, arith}
-use Rattle.std.proofs.lemmas.Bool.Decides.{Decides-eqb}
 use Rattle.sf_base.proofs.Elements.{all_by-append}
 use Rattle.sf_base.specs.declared.ids.FieldId.{FieldId}
 use Rattle.sf_base.specs.declared.ids.Var.{Var}
@@ -17,7 +16,7 @@ use Rattle.sf_sym.specs.declared.atom.Atom.TheVariants.{Points, Ls, Tree, Dll}
 use Rattle.sf_sym.specs.declared.atom.Numbered.{Numbered}
 use Rattle.sf_sym.specs.declared.term.Term.{Term}
 use Rattle.sf_sym.specs.Equalities.{atom_with, numbered_with, state_with}
-use Rattle.sf_sym.specs.Checked.Lemmas.AtomLists.{with_fields-all, without-all}
+use Rattle.sf_sym.specs.Checked.Lemmas.AtomLists.{numbers-fields, with_fields-all, without-all}
 use Rattle.sf_sym.specs.Checked.Lemmas.Below.{below-more, state-weaker}
 use Rattle.sf_sym.specs.Checked.Lemmas.FreshGoals.{from_nil-below, more-below}
 use Rattle.sf_sym.specs.Numbers.{AreRising, numbers}
@@ -53,18 +52,6 @@ rising-without (x ∷ xs) a r = go (x.number == a) (rising-without xs a r.1)
     go : (b : Bool) → AreRising (numbers (without xs a)) → AreRising (numbers (cond b xs (x ∷ without xs a)))
     go true h = r.1
     go false h = (numbers-without (λ n. x.number < n) xs a r.0, h)
-
--- a cell in place of another has its number
-fields-numbers : (xs : List Numbered) (a : ℕ) (t : Term) (fields : List (FieldId × Term))
-    → numbers (with_fields xs a t fields) ≡ numbers xs
-fields-numbers [] a t fields = refl
-fields-numbers (x ∷ xs) a t fields = go (x.number == a) refl (fields-numbers xs a t fields)
-  where
-    go : (b : Bool) → x.number == a ≡ b → numbers (with_fields xs a t fields) ≡ numbers xs
-        → numbers (cond b (record { number = a; atom = Points t fields } ∷ xs) (x ∷ with_fields xs a t fields))
-        ≡ x.number ∷ numbers xs
-    go true e r = ap (λ n. n ∷ numbers xs) (sym ((Decides-eqb x.number a).0 e))
-    go false e r = ap (λ ns. x.number ∷ ns) r
 
 replaced-numbers : (to : Term → Term) (xs : List Numbered) → numbers (map (numbered_with to) xs) ≡ numbers xs
 replaced-numbers to [] = refl
@@ -204,7 +191,7 @@ module _ (d : Setting) (s : State) (h : StateShaped d s) where
       → AllPaired (IsBelow s.next_sym) fields
       → StateShaped d (record s { atoms = with_fields s.atoms a root fields })
   fields-shaped a root fields b c =
-      let same = fields-numbers s.atoms a root fields in
+      let same = numbers-fields s.atoms a root fields in
       record {
         below = record {
           vars = h.below.vars;

@@ -23,7 +23,7 @@ use Rattle.sf_rules.specs.Checked.LawsOfRows.{RowLaws}
 use Rattle.sf_rules.proofs.KeptVariables.{AllHave, next-reads, rows-have}
 use Rattle.sf_rules.proofs.ShapedGoals.{AllKeep}
 use Rattle.sf_rules.proofs.ShapedRows.{ProgramFits, cases-keep}
-use Rattle.sf_rules.specs.Checked.LawsOfShape.{FirstGoalsAreShaped, FirstGoalsAreSmall, GoalsAreShaped, IsGrown, IsLeft, IsSetUp, RowsKeepShape}
+use Rattle.sf_rules.specs.Checked.LawsOfShape.{FirstGoalsAreShaped, FirstGoalsAreSmall, GoalsAreShaped, IsGrown, IsLeft, IsSetUp, LawsBelow, RowsKeepShape}
 use Rattle.sf_rules.specs.Checked.RowCases.{RowsHaveCases}
 use Rattle.sf_rules.specs.First.{first_goal}
 use Rattle.sf_rules.specs.Checked.Lemmas.RuleRows.{leaves-row}
@@ -35,16 +35,6 @@ use Rattle.sf_sym.specs.declared.tag.Tag.{Tag}
 use Rattle.sf_sym.specs.Formed.{ItemFormed}
 use Rattle.sf_sym.specs.Goal.{Goal}
 use Rattle.sf_sym.specs.State.{State}
-
--- the laws of the crates below on which it rests that a program's annotations and bodies fit
-pub record LawsBelow : Type 0 where
-  pub assigned : ChangesAreAssigned
-  pub breaches : FirstBreachIsBroken
-  pub held : HeldResourcesAreThere
-  pub decided : UndeterminedHasPlace
-  pub never : NeverTakenIsUndetermined
-  pub ordered : DeterminedHasOrder
-  pub form : OrderKeepsForm
 
 -- A GOAL IS SHAPED where it fits and is orderly, and only there
 pub shaped-fitting : (d : Setting) (goal : Goal) → IsShaped d goal → IsFitting d goal

@@ -26,6 +26,7 @@ use Rattle.sf_sym.specs.Cells.{with_atom, with_cell}
 use Rattle.sf_sym.specs.declared.atom.Atom.TheVariants.{Ls, Tree, Dll}
 use Rattle.sf_sym.specs.declared.term.Term.{Term}
 use Rattle.sf_sym.specs.declared.term.Term.TheVariants.{Sym}
+use Rattle.sf_sym.specs.Equalities.{assumed_apart, assumed_equal}
 use Rattle.sf_sym.specs.Fields.{put_term}
 use Rattle.sf_sym.specs.Goal.{Item, add, Goal, adding}
 use Rattle.sf_sym.specs.Checked.Lemmas.Below.{below-more, below-symbol, items-weaker, paired-weaker, put-all}
@@ -209,29 +210,33 @@ module _ (d : Setting) (s : State) (p : Place) (bindings : List (Option Term)) (
   sides-few : (x y : Operand Term) → one_if_existential x + one_if_existential y ≤ 1000
   sides-few x y = let one = few-one x in let two = few-one y in omega (arith, one, two)
 
+  -- something is known of two sides that are met
+  sides-keep : (x y : Operand Term) (c : Conjunct Term) → Assuming d s bindings c cs rest
+      → ((t : Term) → Known t ≡ x → OccursInOne c (Known t)) → ((t : Term) → Known t ≡ y → OccursInOne c (Known t))
+      → (known : (t u : Term) → Goal → Goal)
+      →
+      ((t u : Term) (goal : Goal) → IsFitting d goal → (before : State) → IsBelow goal.state.next_sym t
+      → IsBelow goal.state.next_sym u → Rises before goal.state → Keeps d before (known t u goal))
+      → (child : Goal) → (let m = met_both s bindings x y in
+      Some (known m.one m.two (goal_after m.state p cs m.bindings rest)) ≡ Some child) → Keeps d s child
+  sides-keep x y c a i j known keeps child e =
+      let m = met_both s bindings x y in
+      let k = sides-meet x y c a i j in
+      subst (Keeps d s) (same_Some _ child e)
+      (keeps m.one m.two (goal_after m.state p cs m.bindings rest)
+      (after-shaped c a m.state m.bindings k.0.shaped k.0.bound k.0.kept) s k.1 k.2
+      (meets-rise (one_if_existential x + one_if_existential y) m.state m.bindings k.0 (sides-few x y) m.state refl
+      (omega arith)))
+
   added-keeps : (c : Conjunct Term) (child : Goal) → Assuming d s bindings c cs rest
       → added s p bindings c cs rest ≡ Some child → Keeps d s child
   added-keeps (holds q True) child a e =
       subst (Keeps d s) (same_Some _ child e)
       (after-keeps (holds q True) a s bindings a.shaped a.bound (rises-none s s refl refl))
   added-keeps (holds q (Equal x y)) child a e =
-      let c = holds q (Equal x y) in
-      let m = met_both s bindings x y in
-      let k = sides-meet x y c a (λ t i. inl i) (λ t i. inr i) in
-      subst (Keeps d s) (same_Some _ child e)
-      (equal-keeps d m.one m.two (goal_after m.state p cs m.bindings rest)
-      (after-shaped c a m.state m.bindings k.0.shaped k.0.bound k.0.kept) s k.1 k.2
-      (meets-rise (one_if_existential x + one_if_existential y) m.state m.bindings k.0 (sides-few x y) m.state refl
-      (omega arith)))
+      sides-keep x y (holds q (Equal x y)) a (λ t i. inl i) (λ t i. inr i) assumed_equal (equal-keeps d) child e
   added-keeps (holds q (Differ x y)) child a e =
-      let c = holds q (Differ x y) in
-      let m = met_both s bindings x y in
-      let k = sides-meet x y c a (λ t i. inl i) (λ t i. inr i) in
-      subst (Keeps d s) (same_Some _ child e)
-      (apart-keeps d m.one m.two (goal_after m.state p cs m.bindings rest)
-      (after-shaped c a m.state m.bindings k.0.shaped k.0.bound k.0.kept) s k.1 k.2
-      (meets-rise (one_if_existential x + one_if_existential y) m.state m.bindings k.0 (sides-few x y) m.state refl
-      (omega arith)))
+      sides-keep x y (holds q (Differ x y)) a (λ t i. inl i) (λ t i. inr i) assumed_apart (apart-keeps d) child e
   added-keeps (points q x fs) child a e =
       let c = points q x fs in
       let root = met s bindings x in

@@ -132,21 +132,8 @@ module _ (d : Setting) (t u : Term) (goal : Goal) where
     apart_goal-shaped b c =
         let m = apart-shaped d goal.state (state-shaped d goal h) ((t, u) ∷ []) ((b, c), tt) in
         record {
-          below = record {
-            state = record {
-              vars = m.below.vars;
-              apart = m.below.apart;
-              atoms = m.below.atoms;
-              taken = m.below.taken;
-            };
-            todo = h.below.todo;
-          };
-          state = record {
-            links = m.fits.links;
-            atoms = m.fits.atoms;
-            rising = m.fits.rising;
-            given = m.fits.given;
-          };
+          below = record { state = m.below; todo = h.below.todo };
+          state = m.fits;
           todo = h.todo;
         }
 

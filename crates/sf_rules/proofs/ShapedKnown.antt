@@ -2,8 +2,8 @@
 -- Names: `ROW-keeps`.
 use Rattle.std.specs.Option.{option_and_then, option_map}
 use Rattle.std.specs.Prelude.{◌&&◌, not}
-use Rattle.std.proofs.Common.{◌≡◌, ℕ, ◌+◌, ◌≤◌, Bool, true, false, cond, is_some, Option, Some, None, List, [], ◌∷◌, refl, subst, arith}
-use Rattle.std.proofs.lemmas.Option.{same_Some}
+use Rattle.std.proofs.Common.{◌≡◌, ◌∙◌, ℕ, ◌+◌, ◌≤◌, Bool, true, false, cond, is_some, Option, Some, None, List, [], ◌∷◌, refl, subst, arith, sym}
+use Rattle.std.proofs.lemmas.Option.{same_Some, none-some}
 use Rattle.sf_base.proofs.Bools.{and-left, and-right}
 use Rattle.sf_base.specs.declared.ids.FieldId.{FieldId}
 use Rattle.sf_core.specs.declared.fields.Links.{Links}
@@ -54,11 +54,18 @@ module _ (d : Setting) (s : State) (h : StateShaped d s) where
       subst Unrolls (same_Some (with_atom (Ls rest u) (with_cell (with_symbols 1 s) t ((next, rest) ∷ []))) s2 e)
       (three, record { kept = omega arith; symbols = omega arith; atoms = omega arith })
 
-  tree-unrolls : (left right : Option FieldId) (t : Term) (s2 : State) → IsBelow s.next_sym t
-      → HasLinks (links_of d.program) (Tree t) → unrolled_tree left right t s ≡ Some s2 → Unrolls s2
-  tree-unrolls None right t s2 b l e = absurd (cc)
-  tree-unrolls (Some left) None t s2 b l e = absurd (cc)
-  tree-unrolls (Some left) (Some right) t s2 b l e =
+  -- what unrolls by two links has both
+  both-links : (unrolled : Option FieldId → Option FieldId → Option State) → ((q : Option FieldId) → unrolled None q ≡ None)
+      → ((one : FieldId) → unrolled (Some one) None ≡ None) → (s2 : State)
+      → ((one two : FieldId) → unrolled (Some one) (Some two) ≡ Some s2 → Unrolls s2)
+      → (o q : Option FieldId) → unrolled o q ≡ Some s2 → Unrolls s2
+  both-links unrolled no_one no_two s2 then None q e = absurd (none-some s2 (sym (no_one q) ∙ e))
+  both-links unrolled no_one no_two s2 then (Some one) None e = absurd (none-some s2 (sym (no_two one) ∙ e))
+  both-links unrolled no_one no_two s2 then (Some one) (Some two) e = then one two e
+
+  tree-unrolls : (left right : FieldId) (t : Term) (s2 : State) → IsBelow s.next_sym t
+      → HasLinks (links_of d.program) (Tree t) → unrolled_tree (Some left) (Some right) t s ≡ Some s2 → Unrolls s2
+  tree-unrolls left right t s2 b l e =
       let first = Sym s.next_sym in
       let second = Sym (s.next_sym + 1) in
       let here = symbol s.next_sym (s.next_sym + 2) (omega arith) in
@@ -81,12 +88,10 @@ module _ (d : Setting) (s : State) (h : StateShaped d s) where
       put-all (IsBelow (s.next_sym + 1)) next t (put_term back u []) b
       (put-all (IsBelow (s.next_sym + 1)) back u [] c tt)
 
-  double-unrolls : (next back : Option FieldId) (t p l u : Term) (s2 : State)
+  double-unrolls : (next back : FieldId) (t p l u : Term) (s2 : State)
       → AllInAtom (IsBelow s.next_sym) (Dll t p l u) → HasLinks (links_of d.program) (Dll t p l u)
-      → unrolled_double next back t p l u s ≡ Some s2 → Unrolls s2
-  double-unrolls None back t p l u s2 b k e = absurd (cc)
-  double-unrolls (Some next) None t p l u s2 b k e = absurd (cc)
-  double-unrolls (Some next) (Some back) t p l u s2 b k e =
+      → unrolled_double (Some next) (Some back) t p l u s ≡ Some s2 → Unrolls s2
+  double-unrolls next back t p l u s2 b k e =
       let rest = Sym s.next_sym in
       let here = symbol s.next_sym (s.next_sym + 1) (omega arith) in
       let fields = put_term next rest (put_term back p []) in
@@ -99,12 +104,10 @@ module _ (d : Setting) (s : State) (h : StateShaped d s) where
       (three, record { kept = omega arith; symbols = omega arith; atoms = omega arith })
 
   -- from behind
-  pub last-unrolls : (next back : Option FieldId) (t p l u : Term) (s2 : State)
+  last-unrolls_by : (next back : FieldId) (t p l u : Term) (s2 : State)
       → AllInAtom (IsBelow s.next_sym) (Dll t p l u) → HasLinks (links_of d.program) (Dll t p l u)
-      → unrolled_last next back t p l u s ≡ Some s2 → Unrolls s2
-  last-unrolls None back t p l u s2 b k e = absurd (cc)
-  last-unrolls (Some next) None t p l u s2 b k e = absurd (cc)
-  last-unrolls (Some next) (Some back) t p l u s2 b k e =
+      → unrolled_last (Some next) (Some back) t p l u s ≡ Some s2 → Unrolls s2
+  last-unrolls_by next back t p l u s2 b k e =
       let before = Sym s.next_sym in
       let here = symbol s.next_sym (s.next_sym + 1) (omega arith) in
       let fields = put_term next u (put_term back before []) in
@@ -117,12 +120,23 @@ module _ (d : Setting) (s : State) (h : StateShaped d s) where
       subst Unrolls (same_Some (with_cell rest l fields) s2 e)
       (three, record { kept = omega arith; symbols = omega arith; atoms = omega arith })
 
+  pub last-unrolls : (next back : Option FieldId) (t p l u : Term) (s2 : State)
+      → AllInAtom (IsBelow s.next_sym) (Dll t p l u) → HasLinks (links_of d.program) (Dll t p l u)
+      → unrolled_last next back t p l u s ≡ Some s2 → Unrolls s2
+  last-unrolls next back t p l u s2 b k e =
+      both-links (λ o q. unrolled_last o q t p l u s) (λ q. refl) (λ one. refl) s2
+      (λ one two i. last-unrolls_by one two t p l u s2 b k i) next back e
+
   unrolls : (links : Links) (x : Atom) (s2 : State) → AllInAtom (IsBelow s.next_sym) x
       → HasLinks (links_of d.program) x → unrolled links x s ≡ Some s2 → Unrolls s2
   unrolls links (Points t fields) s2 b l e = absurd (cc)
   unrolls links (Ls t u) s2 b l e = segment-unrolls links.tl t u s2 b.0 b.1 l e
-  unrolls links (Tree t) s2 b l e = tree-unrolls links.l links.r t s2 b l e
-  unrolls links (Dll t p m u) s2 b l e = double-unrolls links.tl links.pv t p m u s2 b l e
+  unrolls links (Tree t) s2 b l e =
+      both-links (λ o q. unrolled_tree o q t s) (λ q. refl) (λ one. refl) s2
+      (λ one two i. tree-unrolls one two t s2 b l i) links.l links.r e
+  unrolls links (Dll t p m u) s2 b l e =
+      both-links (λ o q. unrolled_double o q t p m u s) (λ q. refl) (λ one. refl) s2
+      (λ one two i. double-unrolls one two t p m u s2 b l i) links.tl links.pv e
 
 module _ (d : Setting) (goal : Goal) (left : List Goal) (h : IsFitting d goal) where
   abbrev s : State

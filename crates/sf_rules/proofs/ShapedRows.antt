@@ -120,21 +120,7 @@ module _ (d : Setting) (s : State) (rest : List Item) (left : List Goal) where
       (set_all-below n set s.vars h.below.todo.0 h.below.state.vars)) in
       let two = given-shaped d (record s { vars = vars }) one in
       one-left d s item rest left h (record s { taken = []; vars = vars }) rest e
-      (record {
-        below = record {
-          vars = two.below.vars;
-          apart = two.below.apart;
-          atoms = two.below.atoms;
-          taken = two.below.taken;
-        };
-        fits = record {
-          links = two.fits.links;
-          atoms = two.fits.atoms;
-          rising = two.fits.rising;
-          given = two.fits.given;
-        };
-      })
-      (rises-none s _ refl refl) h.below.todo.1 h.todo
+      two (rises-none s _ refl refl) h.below.todo.1 h.todo
 
   again-keeps : (p : Place) (invariant : Assertion) → Before (again p invariant)
       → left ≡ goal_of s (to_take p (term s.vars) (d.ordered invariant) ++ (end p ∷ [])) ∷ [] → AllKeep d s left

@@ -1,15 +1,14 @@
 -- Lists in order as finite maps.
 -- Names: `one-LAW` speaks of lists that say the same; the laws have the names of the functions whose
 -- contracts they are.
-use Rattle.std.proofs.Common.{◌≡◌, Bool, true, false, cond, Some, None, List, [], ◌∷◌, refl, sym, ap, ap₂, ◌∙◌, subst}
+use Rattle.std.proofs.Common.{◌≡◌, Bool, true, false, cond, Option, Some, None, List, [], ◌∷◌, refl, sym, ap, ap₂, ◌∙◌, subst}
 use Rattle.std.proofs.lemmas.Option.{same_Some}
 use Rattle.sf_base.specs.declared.ids.Var.{Var}
 use Rattle.sf_base.specs.Variables.{same_var}
-use Rattle.sf_rules.specs.Checked.LawsOfUpdates.{FieldsAreOneList, FieldsAreUpdated, VariablesAreOneList, VariablesAreUpdated, variable_term}
-use Rattle.sf_sym.specs.Checked.Lemmas.Updates.{AllAfter, Keys, Ordered, after-more, after-none, by-false, by-true, field-found, fields, fields-ordered, flipped, found, gone-elsewhere, gone-here, other, put-elsewhere, put-here, put-order, remove-order, set-order, variables, variables-ordered}
+use Rattle.sf_rules.specs.Checked.LawsOfUpdates.{FieldsAreOneList, FieldsAreUpdated, IsUpdate, VariablesAreOneList, VariablesAreUpdated, variable_term}
+use Rattle.sf_sym.specs.Checked.Lemmas.Updates.{AllAfter, Keys, Ordered, after-more, after-none, by-false, by-true, field-found, fields, fields-ordered, flipped, found, gone, gone-elsewhere, gone-here, other, put, put-elsewhere, put-here, put-order, remove-order, set-order, variables, variables-ordered}
 use Rattle.sf_sym.specs.declared.term.Term.{Term}
-use Rattle.sf_sym.specs.Fields.{put_term}
-use Rattle.sf_sym.specs.Variables.{remove_var, set_var}
+use Rattle.sf_sym.specs.Fields.{field_term}
 
 module _ {K : Type 0} (k : Keys K) where
   -- the first of a list in order is in no list that begins after it
@@ -62,6 +61,21 @@ module _ {K : Type 0} (k : Keys K) where
       go r false i false j =
           absurd (first-in w v ws vs o.0 (λ x. sym (e x)) (k.total v.0 w.0 (flipped k v.0 w.0 i) j))
 
+-- updates, by what a list says of a key
+module _ {K : Type 0} (k : Keys K) (said : List (K × Term) → K → Option Term)
+    (is-found : (vs : List (K × Term)) (x : K) → said vs x ≡ found k vs x) where
+  put-update : (x : K) (t : Term) (vs : List (K × Term)) → IsUpdate x (Some t) (said vs) (said (put k x t vs))
+  put-update x t vs = record {
+    here = is-found (put k x t vs) x ∙ put-here k x t vs;
+    elsewhere = λ y n. is-found (put k x t vs) y ∙ put-elsewhere k x t vs y (other k x y n) ∙ sym (is-found vs y);
+  }
+
+  gone-update : (x : K) (vs : List (K × Term)) → IsUpdate x None (said vs) (said (gone k x vs))
+  gone-update x vs = record {
+    here = is-found (gone k x vs) x ∙ gone-here k x vs;
+    elsewhere = λ y n. is-found (gone k x vs) y ∙ gone-elsewhere k x vs y (other k x y n) ∙ sym (is-found vs y);
+  }
+
 -- Variables
 variable-found : (vs : List (Var × Term)) (x : Var) → variable_term vs x ≡ found variables vs x
 variable-found [] x = refl
@@ -70,20 +84,9 @@ variable-found (v ∷ vs) x = ap (λ o. cond (same_var v.0 x) (Some v.1) o) (var
 pub variables_are_updated : VariablesAreUpdated
 unfolding VariablesAreUpdated
 variables_are_updated x t vs o = (
-  (
-    set-order x t vs o,
-    record {
-      here = variable-found (set_var x t vs) x ∙ put-here variables x t vs;
-      elsewhere = λ y n. variable-found (set_var x t vs) y
-          ∙ put-elsewhere variables x t vs y (other variables x y n) ∙ sym (variable-found vs y);
-    },
-  ),
+  (set-order x t vs o, put-update variables variable_term variable-found x t vs),
   remove-order x vs o,
-  record {
-    here = variable-found (remove_var x vs) x ∙ gone-here variables x vs;
-    elsewhere = λ y n. variable-found (remove_var x vs) y
-        ∙ gone-elsewhere variables x vs y (other variables x y n) ∙ sym (variable-found vs y);
-  },
+  gone-update variables variable_term variable-found x vs,
 )
 
 pub variables_are_one_list : VariablesAreOneList
@@ -95,14 +98,7 @@ variables_are_one_list vs ws o p e =
 -- Fields
 pub fields_are_updated : FieldsAreUpdated
 unfolding FieldsAreUpdated
-fields_are_updated f t fs o = (
-  put-order f t fs o,
-  record {
-    here = field-found (put_term f t fs) f ∙ put-here fields f t fs;
-    elsewhere = λ g n. field-found (put_term f t fs) g
-        ∙ put-elsewhere fields f t fs g (other fields f g n) ∙ sym (field-found fs g);
-  },
-)
+fields_are_updated f t fs o = (put-order f t fs o, put-update fields field_term field-found f t fs)
 
 pub fields_are_one_list : FieldsAreOneList
 unfolding FieldsAreOneList

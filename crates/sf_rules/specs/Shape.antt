@@ -78,17 +78,11 @@ abbrev mutual
 
   -- one as a whole
   pub WholeFits : Setting → Command → Type 0
-  WholeFits d (assign p x e) = Unit {0}
-  WholeFits d (look_up p x e f) = Unit {0}
-  WholeFits d (mutate p e f v) = Unit {0}
-  WholeFits d (new p x) = Unit {0}
-  WholeFits d (dispose p e) = Unit {0}
   WholeFits d (if p test this that) = BlockFits d this × BlockFits d that
   WholeFits d (while p test invariant body) =
       AnnotationFits d invariant × (length (changes_in d.sets body) < TOO_MANY) × BlockFits d body
-  WholeFits d (call p c) = CommandFits d (call p c)
-  WholeFits d (fork p c e) = CommandFits d (fork p c e)
   WholeFits d (with p r test body) = CommandFits d (with p r test body) × BlockFits d body
+  WholeFits d c = CommandFits d c
 
 -- what is to do fits, up to the end of a loop's body, of the procedure or of all, which comes
 abbrev pub TodoFits : Setting → List Item → Type 0

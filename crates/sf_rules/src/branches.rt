@@ -49,7 +49,7 @@ fn branch_of_command<'a>(
     let Command::If(_, test, this, that) = c else {
         return Ok(None);
     };
-    if !is_decided(so, &state, &command_test(state.vars(), test)) {
+    if !is_decided(so, &state, &command_test(&state, test)) {
         return Ok(None);
     }
     todo.push(Item::Run(block(so, this, that)))?;

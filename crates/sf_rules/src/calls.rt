@@ -21,6 +21,7 @@ ghost use Rattle.sf_sym.specs.Variables.{fresh_for};
 use crate::children::Children;
 use crate::few::TOO_MANY;
 use crate::front::{take_command, take_gave};
+use crate::left::Left;
 use crate::terms::term_of;
 use crate::words::{Terms, with_assumed, with_wanted};
 use sf_base::{Place, ProcId, Var};
@@ -60,11 +61,7 @@ fn contract_of<'a>(arranged: &'a Arranged, f: ProcId) -> Option<Contract<'a>>
 /// call: the precondition is due, then what the call may change is unknown, and the postcondition
 /// is assumed.
 #[inline(never)]
-pub(crate) fn call<'a>(
-    alloc: Global,
-    arranged: &'a Arranged,
-    goal: Goal<'a>,
-) -> Result<Option<Children<'a>>, AllocError>
+pub(crate) fn call<'a>(alloc: Global, arranged: &'a Arranged, goal: Goal<'a>) -> Left<'a>
     ghost d: { Setting }
     requires ordered { IsOrdering d.ordered }
     requires setting { d ≡ setting_of d.ordered arranged.now }
@@ -100,7 +97,7 @@ fn call_one<'a>(
     place: Place,
     call: &'a Call,
     contract: Contract<'a>,
-) -> Result<Option<Children<'a>>, AllocError>
+) -> Left<'a>
     requires { IsTrue (has_numbers goal.state) }
     ensures { IfOk result (λ left. option_map children_of left
         ≡ called_with calls.now goal.entry.state place (call_of call.now)
@@ -121,11 +118,7 @@ fn call_one<'a>(
 /// fork: both preconditions are due, then what the calls may change is unknown, and both
 /// postconditions are assumed.
 #[inline(never)]
-pub(crate) fn fork<'a>(
-    alloc: Global,
-    arranged: &'a Arranged,
-    goal: Goal<'a>,
-) -> Result<Option<Children<'a>>, AllocError>
+pub(crate) fn fork<'a>(alloc: Global, arranged: &'a Arranged, goal: Goal<'a>) -> Left<'a>
     ghost d: { Setting }
     requires ordered { IsOrdering d.ordered }
     requires setting { d ≡ setting_of d.ordered arranged.now }
@@ -165,7 +158,7 @@ fn call_two<'a>(
     place: Place,
     left: (&'a Call, Contract<'a>),
     right: (&'a Call, Contract<'a>),
-) -> Result<Option<Children<'a>>, AllocError>
+) -> Left<'a>
     requires { IsTrue (has_numbers goal.state) }
     ensures { IfOk result (λ goals. option_map children_of goals
         ≡ forked_with calls.now goal.entry.state place
@@ -355,7 +348,7 @@ fn values_of(alloc: Global, vars: &[(Var, Term)], values: &[Expr]) -> Result<Vec
 
 /// give: what was taken is gone for good, and variables are set and removed.
 #[inline(never)]
-pub(crate) fn give<'a>(mut goal: Goal<'a>) -> Result<Option<Children<'a>>, AllocError>
+pub(crate) fn give<'a>(mut goal: Goal<'a>) -> Left<'a>
     ensures { IfOk result (λ left. option_map children_of left
         ≡ at_gave (give_row goal.entry.state) (todo_of goal.entry.todo.items)) }
 {

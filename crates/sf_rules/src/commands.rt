@@ -12,7 +12,6 @@ ghost use Rattle.sf_sym.specs.Goal.{one_goal, todo_of};
 
 use crate::children::Children;
 use crate::front::take_command;
-use crate::terms::term_of;
 use sf_base::{FieldId, Var};
 use sf_core::Command;
 use sf_sym::{FieldTerms, Goal, Term, field_term};
@@ -30,7 +29,7 @@ pub(crate) fn assign<'a>(mut goal: Goal<'a>) -> Result<Option<Children<'a>>, All
     let Command::Assign(_, x, e) = c else {
         return Ok(None);
     };
-    let t = term_of(goal.state.vars(), e);
+    let t = goal.state.term(e);
     goal.state.set_var(x.var, t)?;
     Ok(Some(Children::One(goal)))
 }
@@ -48,7 +47,7 @@ pub(crate) fn look<'a>(mut goal: Goal<'a>, a: u32) -> Result<Option<Children<'a>
     let Command::LookUp(_, x, e, f) = c else {
         return Ok(None);
     };
-    let root = term_of(goal.state.vars(), e);
+    let root = goal.state.term(e);
     look_up(goal, a, root, *f, x.var)
 }
 
@@ -94,8 +93,8 @@ pub(crate) fn mutate<'a>(mut goal: Goal<'a>, a: u32) -> Result<Option<Children<'
     let Command::Mutate(_, e, f, v) = c else {
         return Ok(None);
     };
-    let root = term_of(goal.state.vars(), e);
-    let u = term_of(goal.state.vars(), v);
+    let root = goal.state.term(e);
+    let u = goal.state.term(v);
     if goal.state.cell(a, root).is_none() {
         return Ok(None);
     }
@@ -134,7 +133,7 @@ pub(crate) fn dispose<'a>(mut goal: Goal<'a>, a: u32) -> Result<Option<Children<
     let Command::Dispose(_, e) = c else {
         return Ok(None);
     };
-    let root = term_of(goal.state.vars(), e);
+    let root = goal.state.term(e);
     if goal.state.cell(a, root).is_none() {
         return Ok(None);
     }

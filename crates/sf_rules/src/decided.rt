@@ -4,10 +4,8 @@ ghost use Rattle.std.specs.Prelude.{◌≡◌};
 ghost use Rattle.sf_sym.specs.Decided.{command_test, is_decided, test_of_terms};
 ghost use Rattle.sf_sym.specs.State.{term};
 
-use crate::terms::term_of;
-use sf_base::Var;
 use sf_core::{Expr, Operand, Test};
-use sf_sym::{State, Term};
+use sf_sym::{State, Term, term_of};
 
 /// Whether the state decides the test so: true, or false.
 pub fn is_decided(so: bool, state: &State, test: &Test<Term>) -> bool
@@ -27,25 +25,25 @@ pub fn test_of_terms(bindings: &[Option<Term>], test: &Test<Operand<Term>>) -> O
     match test {
         Test::True => Some(Test::True),
         Test::Equal(x, y) => {
-            let t = sf_sym::term_of(bindings, x)?;
-            let u = sf_sym::term_of(bindings, y)?;
+            let t = term_of(bindings, x)?;
+            let u = term_of(bindings, y)?;
             Some(Test::Equal(t, u))
         }
         Test::Differ(x, y) => {
-            let t = sf_sym::term_of(bindings, x)?;
-            let u = sf_sym::term_of(bindings, y)?;
+            let t = term_of(bindings, x)?;
+            let u = term_of(bindings, y)?;
             Some(Test::Differ(t, u))
         }
     }
 }
 
 /// A command's test with the terms that the variables have now.
-pub fn command_test(vars: &[(Var, Term)], test: &Test<Expr>) -> Test<Term>
-    ensures { result ≡ command_test (term vars.now) test.now }
+pub fn command_test(state: &State, test: &Test<Expr>) -> Test<Term>
+    ensures { result ≡ command_test (term state.now.vars) test.now }
 {
     match test {
         Test::True => Test::True,
-        Test::Equal(x, y) => Test::Equal(term_of(vars, x), term_of(vars, y)),
-        Test::Differ(x, y) => Test::Differ(term_of(vars, x), term_of(vars, y)),
+        Test::Equal(x, y) => Test::Equal(state.term(x), state.term(y)),
+        Test::Differ(x, y) => Test::Differ(state.term(x), state.term(y)),
     }
 }

@@ -9,13 +9,14 @@ ghost use Rattle.sf_rules.specs.Rules.{has_numbers};
 ghost use Rattle.sf_sym.specs.Goal.{goal_of};
 
 use crate::children::Children;
+use crate::left::Left;
 use sf_normal::{absurd, drop, force, split, unroll, unroll_back};
 use sf_sym::{Goal, Term};
-use std::alloc::{AllocError, Global};
+use std::alloc::Global;
 
 /// absurd: nothing is left of a goal whose state is so.
 #[inline(never)]
-pub(crate) fn absurd_row<'a>(goal: Goal<'a>) -> Result<Option<Children<'a>>, AllocError>
+pub(crate) fn absurd_row<'a>(goal: Goal<'a>) -> Left<'a>
     ensures { IfOk result (λ left.
         option_map children_of left ≡ absurd_row (goal_of goal.entry)) }
 {
@@ -24,7 +25,7 @@ pub(crate) fn absurd_row<'a>(goal: Goal<'a>) -> Result<Option<Children<'a>>, All
 
 /// drop: an empty segment or tree goes.
 #[inline(never)]
-pub(crate) fn drop_row<'a>(goal: Goal<'a>, a: u32) -> Result<Option<Children<'a>>, AllocError>
+pub(crate) fn drop_row<'a>(goal: Goal<'a>, a: u32) -> Left<'a>
     ensures { IfOk result (λ left.
         option_map children_of left ≡ drop_row (goal_of goal.entry) a) }
 {
@@ -33,7 +34,7 @@ pub(crate) fn drop_row<'a>(goal: Goal<'a>, a: u32) -> Result<Option<Children<'a>
 
 /// force: a segment or tree that can only be empty is so.
 #[inline(never)]
-pub(crate) fn force_row<'a>(goal: Goal<'a>, a: u32) -> Result<Option<Children<'a>>, AllocError>
+pub(crate) fn force_row<'a>(goal: Goal<'a>, a: u32) -> Left<'a>
     ensures { IfOk result (λ left.
         option_map children_of left ≡ force_row (goal_of goal.entry) a) }
 {
@@ -42,12 +43,7 @@ pub(crate) fn force_row<'a>(goal: Goal<'a>, a: u32) -> Result<Option<Children<'a
 
 /// split: first two terms are the same, second they differ.
 #[inline(never)]
-pub(crate) fn split_row<'a>(
-    alloc: Global,
-    goal: Goal<'a>,
-    t: Term,
-    u: Term,
-) -> Result<Option<Children<'a>>, AllocError>
+pub(crate) fn split_row<'a>(alloc: Global, goal: Goal<'a>, t: Term, u: Term) -> Left<'a>
     ensures { IfOk result (λ left.
         option_map children_of left ≡ split_row (goal_of goal.entry) t u) }
 {
@@ -56,11 +52,7 @@ pub(crate) fn split_row<'a>(
 
 /// unroll: a segment or tree whose ends differ begins with a cell.
 #[inline(never)]
-pub(crate) fn unroll_row<'a>(
-    alloc: Global,
-    goal: Goal<'a>,
-    a: u32,
-) -> Result<Option<Children<'a>>, AllocError>
+pub(crate) fn unroll_row<'a>(alloc: Global, goal: Goal<'a>, a: u32) -> Left<'a>
     requires { IsTrue (has_numbers goal.state) }
     ensures { IfOk result (λ left.
         option_map children_of left ≡ unroll_row (goal_of goal.entry) a) }
@@ -70,11 +62,7 @@ pub(crate) fn unroll_row<'a>(
 
 /// unroll back: a doubly linked segment whose ends differ ends with a cell.
 #[inline(never)]
-pub(crate) fn back_row<'a>(
-    alloc: Global,
-    goal: Goal<'a>,
-    a: u32,
-) -> Result<Option<Children<'a>>, AllocError>
+pub(crate) fn back_row<'a>(alloc: Global, goal: Goal<'a>, a: u32) -> Left<'a>
     requires { IsTrue (has_numbers goal.state) }
     ensures { IfOk result (λ left.
         option_map children_of left ≡ back_row (goal_of goal.entry) a) }

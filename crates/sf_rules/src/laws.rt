@@ -6,7 +6,7 @@
 ghost use Rattle.sf_rules.specs.Checked.LawsOfSettings.{ArrangedHasSetting, SettingExists, SettingIsUnique};
 ghost use Rattle.sf_rules.specs.Checked.LawsOfUpdates.{FieldsAreOneList, FieldsAreUpdated, VariablesAreOneList, VariablesAreUpdated};
 ghost use Rattle.sf_rules.specs.Checked.LawsOfRows.{RowLaws};
-ghost use Rattle.sf_rules.specs.Checked.LawsOfShape.{FirstGoalsAreShaped, FirstGoalsAreSmall, GoalsAreShaped, RowsKeepShape};
+ghost use Rattle.sf_rules.specs.Checked.LawsOfShape.{FirstGoalsAreShaped, FirstGoalsAreSmall, GoalsAreShaped, LawsBelow, RowsKeepShape};
 ghost use Rattle.sf_rules.specs.Checked.RowCases.{RowsHaveCases};
 ghost use Rattle.sf_rules.specs.Checked.LawsOfRules.{RowsAreRules, RulesAreRows};
 ghost use Rattle.sf_rules.specs.Checked.LawsOfConjuncts.{AssumeKeepsGoals, AssumedBranchKeepsGoals, ShownBranchLeavesRest, SubtractionLeavesRest};
@@ -171,11 +171,9 @@ pub fn arranged_has_setting()
     sets_from_truncation();
 }
 
-/// The first goal of each procedure of a program is shaped: it speaks of symbols below its next one
-/// only, its lists are in order, its conjuncts are formed, what it has to do has the form that rows
-/// make, up to its end, and its state and what it has to do fit the program.
-pub fn first_goals_are_shaped()
-    ensures { FirstGoalsAreShaped }
+/// What the shape of goals rests on in the crates below.
+fn laws_below()
+    ensures { LawsBelow }
 {
     changes_are_assigned();
     first_breach_is_broken();
@@ -184,6 +182,15 @@ pub fn first_goals_are_shaped()
     never_taken_is_undetermined();
     determined_has_order();
     order_keeps_form();
+}
+
+/// The first goal of each procedure of a program is shaped: it speaks of symbols below its next one
+/// only, its lists are in order, its conjuncts are formed, what it has to do has the form that rows
+/// make, up to its end, and its state and what it has to do fit the program.
+pub fn first_goals_are_shaped()
+    ensures { FirstGoalsAreShaped }
+{
+    laws_below();
 }
 
 /// It has few symbols, and no atom has taken a number.
@@ -223,13 +230,7 @@ pub fn rows_have_laws()
 pub fn rows_keep_shape()
     ensures { RowsKeepShape }
 {
-    changes_are_assigned();
-    first_breach_is_broken();
-    held_resources_are_there();
-    undetermined_has_place();
-    never_taken_is_undetermined();
-    determined_has_order();
-    order_keeps_form();
+    laws_below();
     rows_have_laws();
 }
 

@@ -6,6 +6,7 @@
 //! - `few`: how many new symbols at once are too many for a row.
 //! - `front`: what is in front of what there is to do.
 //! - `children`: what a tag leaves of a goal: the whole table.
+//! - `left`: what a row leaves of a goal.
 //! - `knowledge`: the rows of what a state tells alone, whatever is still to do.
 //! - `commands`: the rows of commands that touch a variable or a cell.
 //! - `decided`: which tests a state decides.
@@ -30,6 +31,7 @@ pub mod few;
 mod front;
 mod knowledge;
 pub mod laws;
+mod left;
 mod loops;
 mod regions;
 mod start;
@@ -40,4 +42,3 @@ mod words;
 pub use children::{Children, RuleFault, apply_row, push_children};
 pub use decided::{command_test, is_decided, test_of_terms};
 pub use start::first_goal;
-pub use terms::term_of;

@@ -18,6 +18,7 @@ ghost use Rattle.sf_sym.specs.Goal.{exit, gave, to_run, todo_of};
 use crate::children::Children;
 use crate::few::TOO_MANY;
 use crate::front::{take_command, take_exit};
+use crate::left::Left;
 use crate::words::{Terms, with_assumed, with_test, with_wanted};
 use sf_base::{Name, Place, ResId, Var};
 use sf_core::{Assertion, Command, Expr, Test};
@@ -83,11 +84,7 @@ pub(crate) fn add_variables(
 /// enter: the resource's variables are there, with unknown values; its invariant and the condition
 /// are assumed.
 #[inline(never)]
-pub(crate) fn enter<'a>(
-    alloc: Global,
-    arranged: &'a Arranged,
-    goal: Goal<'a>,
-) -> Result<Option<Children<'a>>, AllocError>
+pub(crate) fn enter<'a>(alloc: Global, arranged: &'a Arranged, goal: Goal<'a>) -> Left<'a>
     ghost d: { Setting }
     requires ordered { IsOrdering d.ordered }
     requires setting { d ≡ setting_of d.ordered arranged.now }
@@ -132,7 +129,7 @@ fn enter_region<'a>(
     r: ResId,
     test: &Test<Expr>,
     region: Region<'a>,
-) -> Result<Option<Children<'a>>, AllocError>
+) -> Left<'a>
     requires numbers { IsTrue (has_numbers goal.state) }
     ensures { IfOk result (λ left. option_map children_of left
         ≡ entered_with goal.entry.state place (variables_from r 0 region.entry.names.now)
@@ -151,11 +148,7 @@ fn enter_region<'a>(
 
 /// exit: the invariant is due, and then the resource's variables are gone.
 #[inline(never)]
-pub(crate) fn exit<'a>(
-    alloc: Global,
-    arranged: &'a Arranged,
-    goal: Goal<'a>,
-) -> Result<Option<Children<'a>>, AllocError>
+pub(crate) fn exit<'a>(alloc: Global, arranged: &'a Arranged, goal: Goal<'a>) -> Left<'a>
     ghost d: { Setting }
     requires ordered { IsOrdering d.ordered }
     requires setting { d ≡ setting_of d.ordered arranged.now }

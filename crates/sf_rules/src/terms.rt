@@ -4,16 +4,16 @@ ghost use Rattle.std.specs.Prelude.{◌≡◌, IfOk, None, map, replicate};
 ghost use Rattle.sf_core.specs.Program.View.{conjunct_of, conjuncts, level_of};
 ghost use Rattle.sf_rules.specs.Checked.Terms.{terms_of};
 ghost use Rattle.sf_sym.specs.Mapped.{conjunct_with, conjuncts_with, level_with, operand_with, test_with};
-ghost use Rattle.sf_sym.specs.State.{term, term_at};
+ghost use Rattle.sf_sym.specs.State.{term};
 
 use crate::words::Terms;
 use sf_base::{FieldId, Var};
 use sf_core::{Conjunct, Expr, Level, Operand, Test};
-use sf_sym::Term;
+use sf_sym::{Term, term_at};
 use std::alloc::{AllocError, Global};
 
 /// The term of an expression.
-pub fn term_of(vars: &[(Var, Term)], e: &Expr) -> Term
+pub(crate) fn term_of(vars: &[(Var, Term)], e: &Expr) -> Term
     ensures { result ≡ term vars.now e.now }
 {
     match e {
@@ -21,20 +21,6 @@ pub fn term_of(vars: &[(Var, Term)], e: &Expr) -> Term
         Expr::Nil => Term::Nil,
         Expr::Int(i) => Term::Int(*i),
     }
-}
-
-/// The term of a variable, `Nil` where it has none.
-pub(crate) fn term_at(vars: &[(Var, Term)], x: Var) -> Term
-    ensures { result ≡ term_at vars.now x }
-{
-    let mut left = vars;
-    while let Some((first, rest)) = left.split_first() {
-        if first.0.is_same(x) {
-            return first.1;
-        }
-        left = rest;
-    }
-    Term::Nil
 }
 
 /// That many existentials without a term.

@@ -10,10 +10,10 @@ ghost use Rattle.sf_sym.specs.Goal.{todo_of};
 ghost use Rattle.sf_sym.specs.Pending.{pending_of};
 ghost use Rattle.sf_sym.specs.State.{term_at};
 
-use crate::terms::{term_at, term_of, unbound, with_terms};
+use crate::terms::{term_of, unbound, with_terms};
 use sf_base::{Place, Var};
 use sf_core::{Assertion, Call, Conjunct, Expr, Occurrence, Operand, Ordered, Test};
-use sf_sym::{Item, Pending, Term, with_add, with_take};
+use sf_sym::{Item, Pending, Term, term_at, with_add, with_take};
 use std::alloc::{AllocError, Global};
 
 /// Where the terms of expressions are from.

@@ -6,9 +6,9 @@ use Rattle.std.proofs.lemmas.List.Edits.{map_over_more}
 use Rattle.std.specs.Vec.{with_items}
 use Rattle.sf_base.specs.declared.ids.FieldId.{FieldId}
 use Rattle.sf_sym.specs.declared.term.Term.{Term}
-use Rattle.sf_sym.specs.Fields.{AreAfter, AreOrdered}
+use Rattle.sf_sym.specs.Fields.{AreOrdered}
 use Rattle.sf_sym.proofs.PutTerms.{refill-whole}
-use Rattle.std.specs.List.{refill}
+use Rattle.std.specs.List.{AllByRecursion, refill}
 
 -- one more element is what f makes of it
 pub map_next : {X : Type 0} (f : X → X) (xs ys : List X) (i : ℕ) (d y : X) → i < length xs
@@ -48,13 +48,15 @@ pub vec-mapped : {X : Type 0} (f : X → X) (v : Vec X Global) (ws now : List X)
     → now ≡ v.items → ws ≡ map f now → (with_items v ws).items ≡ map f v.items
 vec-mapped f v ws now n is e = vec-whole v ws (n ∙ ap length is) ∙ e ∙ ap (map f) is
 
--- fields with other terms are in the same order
-after-map : (to : Term → Term) (n : ℕ) (fs : List (FieldId × Term)) → AreAfter n fs
-    → AreAfter n (map (λ f. (f.0, to f.1)) fs)
-after-map to n [] a = tt
-after-map to n (f ∷ fs) a = (a.0, after-map to n fs a.1)
+-- what holds of each element's image holds of each element of the image
+pub all-image : {X Y : Type 0} (P : Y → Type 0) (f : X → Y) (xs : List X) → AllByRecursion (λ x. P (f x)) xs
+    → AllByRecursion P (map f xs)
+all-image P f [] a = tt
+all-image P f (x ∷ xs) a = (a.0, all-image P f xs a.1)
 
+-- fields with other terms are in the same order
 pub ordered-map : (to : Term → Term) (fs : List (FieldId × Term)) → AreOrdered fs
     → AreOrdered (map (λ f. (f.0, to f.1)) fs)
 ordered-map to [] o = tt
-ordered-map to (f ∷ fs) o = (after-map to f.0.0 fs o.0, ordered-map to fs o.1)
+ordered-map to (f ∷ fs) o =
+    (all-image (λ g. f.0.0 < g.0.0) (λ (g : FieldId × Term). (g.0, to g.1)) fs o.0, ordered-map to fs o.1)

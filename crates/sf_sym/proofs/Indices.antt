@@ -1,9 +1,10 @@
 -- Atoms by their numbers: where the code finds one, the definitions find it.
 -- Names: `at-LAW` speaks of the atom at an index.
-use Rattle.std.proofs.Common.{◌≡◌, ℕ, suc, ◌==◌, ◌<◌, ◌+◌, Bool, true, false, cond, Option, Some, None, List, [], ◌∷◌, length, get_or, slice_set, is_some, refl, sym, ap, ◌∙◌, subst, arith}
+use Rattle.std.proofs.Common.{◌≡◌, ℕ, suc, ◌==◌, ◌<◌, ◌+◌, Bool, true, false, cond, Option, Some, None, List, [], ◌∷◌, length, get_or, drop, slice_set, is_some, refl, sym, ap, ◌∙◌, subst, arith}
 use Rattle.std.specs.List.{remove}
 use Rattle.std.specs.Option.{option_and_then, option_map}
 use Rattle.std.proofs.lemmas.Bool.Decides.{Decides-eqb}
+use Rattle.std.proofs.lemmas.List.{get_or-drop}
 use Rattle.std.proofs.lemmas.Option.{option_and_then_some, same_Some}
 use Rattle.sf_base.specs.declared.ids.FieldId.{FieldId}
 use Rattle.sf_sym.specs.declared.atom.Atom.{Atom}
@@ -92,6 +93,18 @@ cell_found a k x xs t e is =
 pub not_a_cell : (a k : ℕ) (x : Numbered) (xs : List Numbered) (t : Term) → Some k ≡ index_from 0 xs a
     → x ≡ get_or xs k x → fields_at x.atom t ≡ None → is_some (cell_at xs a t) ≡ true → ⊥
 not_a_cell a k x xs t e is n c = let found = cell_found a k x xs t e is in absurd (cc)
+
+-- an atom that a part of a list lends is the one at that place of the part
+pub lent_at : (left k : ℕ) (x : Numbered) (items xs : List Numbered) → drop left items ≡ xs
+    → x ≡ get_or items (left + k) x → x ≡ get_or xs k x
+lent_at left k x items xs view there = there ∙ sym (get_or-drop left items k x) ∙ ap (λ ys. get_or ys k x) view
+
+-- and where it is of a form that is no cell, there is none
+pub lent_no_cell : {y : Atom} (a left k : ℕ) (x : Numbered) (items xs : List Numbered) (t : Term)
+    → drop left items ≡ xs → x.atom ≡ y → fields_at y t ≡ None → is_some (cell_at xs a t) ≡ true
+    → Some k ≡ index_from 0 xs a → x ≡ get_or items (left + k) x → ⊥
+lent_no_cell a left k x items xs t view is n c e there =
+    not_a_cell a k x xs t e (lent_at left k x items xs view there) (ap (λ z. fields_at z t) is ∙ n) c
 
 cell-step : (root t : Term) (fields : List (FieldId × Term)) (b : Bool) → (b ≡ true → root ≡ t)
     → is_some (cond b (Some fields) None) ≡ true → (root ≡ t) × (cond b (Some fields) None ≡ Some fields)

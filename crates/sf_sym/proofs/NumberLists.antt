@@ -16,6 +16,7 @@ use Rattle.sf_sym.specs.Cells.{atom_at, cell_at, fields_at, with_fields, without
 use Rattle.sf_sym.specs.Equalities.{numbered_with}
 use Rattle.sf_sym.specs.Fields.{put_term}
 use Rattle.sf_sym.specs.Checked.Indices.{index_from}
+use Rattle.sf_sym.specs.Checked.Lemmas.AtomLists.{numbers-fields}
 use Rattle.sf_sym.proofs.Indices.{cell_of_atom, is_at, no_atom, nothing_without}
 use Rattle.sf_sym.specs.Numbers.{AreDifferent, AreNumbered, AreRising, numbers}
 
@@ -150,17 +151,6 @@ pub numbers-at : (xs : List Numbered) (k : ℕ) (d : Numbered) → k < length xs
 numbers-at [] k d lt = absurd (omega (arith, lt))
 numbers-at (x ∷ xs) zero d lt = refl
 numbers-at (x ∷ xs) (suc k) d lt = numbers-at xs k d (omega (arith, lt))
-
-pub numbers-fields : (xs : List Numbered) (a : ℕ) (t : Term) (fields : List (FieldId × Term))
-    → numbers (with_fields xs a t fields) ≡ numbers xs
-numbers-fields [] a t fields = refl
-numbers-fields (x ∷ xs) a t fields = go (x.number == a) refl (numbers-fields xs a t fields)
-  where
-    go : (b : Bool) → x.number == a ≡ b → numbers (with_fields xs a t fields) ≡ numbers xs
-        → numbers (cond b (record { number = a; atom = Points t fields } ∷ xs) (x ∷ with_fields xs a t fields))
-        ≡ x.number ∷ numbers xs
-    go true e rest = ap (λ n. n ∷ numbers xs) (sym ((Decides-eqb x.number a).0 e))
-    go false e rest = ap (λ ns. x.number ∷ ns) rest
 
 pub numbers-with : (to : Term → Term) (xs : List Numbered) → numbers (map (numbered_with to) xs) ≡ numbers xs
 numbers-with to [] = refl

@@ -1,6 +1,6 @@
 -- The terms of a cell's fields: where a term is put.
 -- Names: `insert-LAW` speaks of what the code does, `put-LAW` of `put_term`.
-use Rattle.std.proofs.Common.{◌≡◌, ℕ, suc, ◌==◌, Bool, true, false, cond, nat_lt, List, [], ◌∷◌, length, slice_get, slice_set, refl, ap, ◌∙◌, arith}
+use Rattle.std.proofs.Common.{◌≡◌, ℕ, suc, ◌==◌, Bool, true, false, cond, nat_lt, List, [], ◌∷◌, length, slice_get, slice_set, refl, sym, ap, ◌∙◌, arith}
 use Rattle.std.specs.List.{insert, refill}
 use Rattle.std.proofs.lemmas.Bool.Decides.{nat_tests}
 use Rattle.std.proofs.lemmas.List.{length-set}
@@ -19,41 +19,51 @@ refill-whole (x ∷ xs) [] e = absurd (omega (arith, e))
 refill-whole (x ∷ xs) (w ∷ ws) e = let rest : length ws ≡ length xs = omega (arith, e) in
     ap (λ ys. w ∷ ys) (refill-whole xs ws rest)
 
--- a field that is there gets its term at its place
-pub insert-there : (f : FieldId) (u : Term) (fs : List (FieldId × Term))
-    → is_field f (slice_get fs (place_of f fs)) ≡ true → slice_set fs (place_of f fs) (f, u) ≡ insert_term f u fs
-insert-there f u [] e = absurd (cc)
-insert-there f u (g ∷ gs) e = go (nat_lt g.0.0 f.0) refl (insert-there f u gs) e
-  where
-    go : (c : Bool) → nat_lt g.0.0 f.0 ≡ c
-        → (is_field f (slice_get gs (place_of f gs)) ≡ true
-        → slice_set gs (place_of f gs) (f, u) ≡ insert_term f u gs)
-        → is_field f (slice_get (g ∷ gs) (cond c (suc (place_of f gs)) 0)) ≡ true
-        → slice_set (g ∷ gs) (cond c (suc (place_of f gs)) 0) (f, u) ≡ insert_term f u (g ∷ gs)
-    go true l rest e =
-        let other : g.0.0 == f.0 ≡ false = grind (arith, nat_tests) in
-        let before : nat_lt f.0 g.0.0 ≡ false = grind (arith, nat_tests) in
-        rw other (rw before (ap (λ ys. g ∷ ys) (rest e)))
-    go false l rest e = rw e refl
+module _ (f : FieldId) (u : Term) where
+  insert-later : (g : FieldId × Term) (gs : List (FieldId × Term)) → nat_lt g.0.0 f.0 ≡ true
+      → insert_term f u (g ∷ gs) ≡ g ∷ insert_term f u gs
+  insert-later g gs l =
+      let other : g.0.0 == f.0 ≡ false = grind (arith, nat_tests) in
+      let before : nat_lt f.0 g.0.0 ≡ false = grind (arith, nat_tests) in
+      rw other (rw before refl)
 
--- one that isn't is put in at its place
-pub insert-new : (f : FieldId) (u : Term) (fs : List (FieldId × Term))
-    → is_field f (slice_get fs (place_of f fs)) ≡ false → insert fs (place_of f fs) (f, u) ≡ insert_term f u fs
-insert-new f u [] e = refl
-insert-new f u (g ∷ gs) e = go (nat_lt g.0.0 f.0) refl (insert-new f u gs) e
-  where
-    go : (c : Bool) → nat_lt g.0.0 f.0 ≡ c
-        → (is_field f (slice_get gs (place_of f gs)) ≡ false
-        → insert gs (place_of f gs) (f, u) ≡ insert_term f u gs)
-        → is_field f (slice_get (g ∷ gs) (cond c (suc (place_of f gs)) 0)) ≡ false
-        → insert (g ∷ gs) (cond c (suc (place_of f gs)) 0) (f, u) ≡ insert_term f u (g ∷ gs)
-    go true l rest e =
-        let other : g.0.0 == f.0 ≡ false = grind (arith, nat_tests) in
-        let before : nat_lt f.0 g.0.0 ≡ false = grind (arith, nat_tests) in
-        rw other (rw before (ap (λ ys. g ∷ ys) (rest e)))
-    go false l rest e =
-        let before : nat_lt f.0 g.0.0 ≡ true = grind (arith, nat_tests) in
-        rw e (rw before refl)
+  insert-before : (g : FieldId × Term) (gs : List (FieldId × Term)) → nat_lt g.0.0 f.0 ≡ false
+      → g.0.0 == f.0 ≡ false → insert_term f u (g ∷ gs) ≡ (f, u) ∷ g ∷ gs
+  insert-before g gs l e =
+      let before : nat_lt f.0 g.0.0 ≡ true = grind (arith, nat_tests) in
+      rw e (rw before refl)
+
+  -- what is done at a field's place is an insertion, where it goes by the fields that come before, and is one at
+  -- the first that doesn't: `b` says whether the field is there
+  inserted-at : (b : Bool) (put : List (FieldId × Term) → ℕ → List (FieldId × Term))
+      → ((g : FieldId × Term) (gs : List (FieldId × Term)) (n : ℕ) → put (g ∷ gs) (suc n) ≡ g ∷ put gs n)
+      → (false ≡ b → put [] 0 ≡ (f, u) ∷ [])
+      → ((g : FieldId × Term) (gs : List (FieldId × Term)) → nat_lt g.0.0 f.0 ≡ false → g.0.0 == f.0 ≡ b
+      → put (g ∷ gs) 0 ≡ insert_term f u (g ∷ gs))
+      → (fs : List (FieldId × Term)) → is_field f (slice_get fs (place_of f fs)) ≡ b
+      → put fs (place_of f fs) ≡ insert_term f u fs
+  inserted-at b put past none here [] e = none e
+  inserted-at b put past none here (g ∷ gs) e = go (nat_lt g.0.0 f.0) refl (inserted-at b put past none here gs) e
+    where
+      go : (c : Bool) → nat_lt g.0.0 f.0 ≡ c
+          → (is_field f (slice_get gs (place_of f gs)) ≡ b → put gs (place_of f gs) ≡ insert_term f u gs)
+          → is_field f (slice_get (g ∷ gs) (cond c (suc (place_of f gs)) 0)) ≡ b
+          → put (g ∷ gs) (cond c (suc (place_of f gs)) 0) ≡ insert_term f u (g ∷ gs)
+      go true l rest e = past g gs (place_of f gs) ∙ ap (λ ys. g ∷ ys) (rest e) ∙ sym (insert-later g gs l)
+      go false l rest e = here g gs l e
+
+  -- a field that is there gets its term at its place
+  pub insert-there : (fs : List (FieldId × Term)) → is_field f (slice_get fs (place_of f fs)) ≡ true
+      → slice_set fs (place_of f fs) (f, u) ≡ insert_term f u fs
+  insert-there =
+      inserted-at true (λ fs n. slice_set fs n (f, u)) (λ g gs n. refl) (λ e. absurd (cc)) (λ g gs l e. rw e refl)
+
+  -- one that isn't is put in at its place
+  pub insert-new : (fs : List (FieldId × Term)) → is_field f (slice_get fs (place_of f fs)) ≡ false
+      → insert fs (place_of f fs) (f, u) ≡ insert_term f u fs
+  insert-new =
+      inserted-at false (λ fs n. insert fs n (f, u)) (λ g gs n. refl) (λ e. refl)
+      (λ g gs l e. sym (insert-before g gs l e))
 
 insert-put : (f : FieldId) (u : Term) (fs : List (FieldId × Term))
     → insert_term f u fs ≡ inserted fields f u fs

@@ -16,22 +16,10 @@ use Rattle.sf_sym.specs.contracts.outline.RowPartialEq.TheImpl.{eq-value as row-
 
 outline_is : (o p : Outline) → same_outline o p ≡ true → o ≡ p
 outline_is (Cell t) (Cell u) e = ap Cell (same_term_is t u e)
-outline_is (Cell t) (Segment u v) e = absurd (false≢true e)
-outline_is (Cell t) (Wood u) e = absurd (false≢true e)
-outline_is (Cell t) (Double v p l u) e = absurd (false≢true e)
-outline_is (Segment t u) (Cell v) e = absurd (false≢true e)
 outline_is (Segment t u) (Segment v w) e =
     ap₂ Segment (same_term_is t v (and-left (same_term t v) (same_term u w) e))
     (same_term_is u w (and-right (same_term t v) (same_term u w) e))
-outline_is (Segment t u) (Wood v) e = absurd (false≢true e)
-outline_is (Segment t u) (Double v p l w) e = absurd (false≢true e)
-outline_is (Wood t) (Cell u) e = absurd (false≢true e)
-outline_is (Wood t) (Segment u v) e = absurd (false≢true e)
 outline_is (Wood t) (Wood u) e = ap Wood (same_term_is t u e)
-outline_is (Wood t) (Double v p l u) e = absurd (false≢true e)
-outline_is (Double v p l u) (Cell t) e = absurd (false≢true e)
-outline_is (Double v p l u) (Segment t w) e = absurd (false≢true e)
-outline_is (Double v p l u) (Wood t) e = absurd (false≢true e)
 outline_is (Double v p l u) (Double w q m x) e =
     let one = and-right (same_term v w) (same_term p q && (same_term l m && same_term u x)) e in
     let two = and-right (same_term p q) (same_term l m && same_term u x) one in
@@ -40,6 +28,7 @@ outline_is (Double v p l u) (Double w q m x) e =
     let c = same_term_is l m (and-left (same_term l m) (same_term u x) two) in
     let d = same_term_is u x (and-right (same_term l m) (same_term u x) two) in
     λ i. Double (a i) (b i) (c i) (d i)
+outline_is o p e = absurd (false≢true e)
 
 outline_self : (o : Outline) → same_outline o o ≡ true
 outline_self (Cell t) = same_self t
@@ -63,22 +52,11 @@ same_row_self r =
 
 derived_outline : (o p : Outline) → outline-value.it o p ≡ same_outline o p
 derived_outline (Cell t) (Cell u) = derived t u
-derived_outline (Cell t) (Segment u v) = refl
-derived_outline (Cell t) (Wood u) = refl
-derived_outline (Cell t) (Double v p l u) = refl
-derived_outline (Segment t u) (Cell v) = refl
 derived_outline (Segment t u) (Segment v w) = ap₂ (λ a b. a && b) (derived t v) (derived u w)
-derived_outline (Segment t u) (Wood v) = refl
-derived_outline (Segment t u) (Double v p l w) = refl
-derived_outline (Wood t) (Cell u) = refl
-derived_outline (Wood t) (Segment u v) = refl
 derived_outline (Wood t) (Wood u) = derived t u
-derived_outline (Wood t) (Double v p l u) = refl
-derived_outline (Double v p l u) (Cell t) = refl
-derived_outline (Double v p l u) (Segment t w) = refl
-derived_outline (Double v p l u) (Wood t) = refl
 derived_outline (Double v p l u) (Double w q m x) =
     λ i. derived v w i && (derived p q i && (derived l m i && derived u x i))
+derived_outline o p = refl
 
 pub derived_row : (r s : Row) → row-value.it r s ≡ same_row r s
 derived_row r s = ap (λ b. nat_eq r.number s.number && b) (derived_outline r.outline s.outline)

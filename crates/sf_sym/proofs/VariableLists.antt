@@ -1,7 +1,7 @@
 -- Lists of variables with their terms: what the code does that sets and removes in them.
 -- Names: `insert-LAW` speaks of a list in which one is set, `removed-LAW` of one from which one is
 -- removed, `insert_vars-LAW` and `delete-LAW` of both as updates.
-use Rattle.std.proofs.Common.{◌≡◌, ℕ, suc, ◌+◌, Bool, true, false, cond, Some, None, List, [], ◌∷◌, slice_get, slice_set, map, refl, sym, ap, ◌∙◌, arith}
+use Rattle.std.proofs.Common.{◌≡◌, ℕ, zero, suc, ◌+◌, Bool, true, false, cond, IsTrue, Some, None, List, [], ◌∷◌, slice_get, slice_set, map, refl, sym, ap, ◌∙◌, subst, arith}
 use Rattle.std.specs.List.{insert, remove, position, position_from}
 use Rattle.std.proofs.lemmas.Iterator.Adapters.{position_from-zero}
 use Rattle.sf_base.specs.declared.ids.Var.{Var}
@@ -9,19 +9,38 @@ use Rattle.sf_base.specs.Variables.{same_var}
 use Rattle.sf_sym.specs.declared.term.Term.{Term}
 use Rattle.sf_sym.specs.Checked.VariablePlaces.{is_var, place_of}
 use Rattle.sf_sym.specs.Checked.Insertion.{delete_var, insert_var, insert_vars}
-use Rattle.sf_sym.specs.Checked.Lemmas.Updates.{deleted, deleted-is, inserted, inserted-is, set-order, variables, variables-ordered}
+use Rattle.sf_sym.specs.Checked.Lemmas.Updates.{by-false, by-true, deleted, deleted-is, inserted, inserted-is, is-false, set-order, variables, variables-ordered}
+use Rattle.sf_sym.proofs.InPlace.{all-image}
+use Rattle.sf_sym.specs.State.{term_at}
 use Rattle.sf_sym.specs.Variables.{AreInOrder, IsBeforeAll, comes_before, remove_var, set_var, set_vars}
-
-before_all-map : (to : Term → Term) (y : Var) (vs : List (Var × Term)) → IsBeforeAll y vs
-    → IsBeforeAll y (map (λ v. (v.0, to v.1)) vs)
-before_all-map to y [] b = tt
-before_all-map to y (v ∷ vs) b = (b.0, before_all-map to y vs b.1)
 
 -- variables stay in order where they have other terms
 pub map-order : (to : Term → Term) (vs : List (Var × Term)) → AreInOrder vs
     → AreInOrder (map (λ v. (v.0, to v.1)) vs)
 map-order to [] o = tt
-map-order to (v ∷ vs) o = (before_all-map to v.0 vs o.0, map-order to vs o.1)
+map-order to (v ∷ vs) o =
+    (all-image (λ w. IsTrue (comes_before v.0 w.0)) (λ (w : Var × Term). (w.0, to w.1)) vs o.0, map-order to vs o.1)
+
+before_all-at : (x : Var) (i : ℕ) (v : Var × Term) (vs : List (Var × Term)) → IsBeforeAll x vs
+    → slice_get vs i ≡ Some v → comes_before x v.0 ≡ true
+before_all-at x i v [] b e = absurd (cc)
+before_all-at x zero v (w ∷ vs) b e = let same : w ≡ v = cc in subst (λ y. comes_before x y.0 ≡ true) same b.0
+before_all-at x (suc i) v (w ∷ vs) b e = before_all-at x i v vs b.1 e
+
+-- a variable that is at an index has the term there
+pub term_there : (x : Var) (i : ℕ) (v : Var × Term) (vs : List (Var × Term)) → AreInOrder vs
+    → slice_get vs i ≡ Some v → same_var v.0 x ≡ true → term_at vs x ≡ v.1
+term_there x i v [] o e s = absurd (cc)
+term_there x zero v (w ∷ vs) o e s =
+    let same : w ≡ v = cc in
+    subst (λ y. term_at (y ∷ vs) x ≡ v.1) (sym same) (by-true (same_var v.0 x) v.1 (term_at vs x) s)
+term_there x (suc i) v (w ∷ vs) o e s =
+    by-false (same_var w.0 x) w.1 (term_at vs x)
+    (is-false (same_var w.0 x) (λ t.
+    let one : w.0 ≡ v.0 = variables.is w.0 x t ∙ sym (variables.is v.0 x s) in
+    let other : same_var v.0 w.0 ≡ false = variables.apart w.0 v.0 (before_all-at w.0 i v vs o.0 e) in
+    let self : same_var v.0 w.0 ≡ true = ap (same_var v.0) one ∙ variables.self v.0 in absurd (cc)))
+    ∙ term_there x i v vs o.1 e s
 
 -- a variable that is there gets its term at its place
 pub insert-there : (x : Var) (t : Term) (vs : List (Var × Term)) → is_var x (slice_get vs (place_of x vs)) ≡ true

@@ -101,7 +101,7 @@ impl State {
         ensures lowest { IsLowest (λ a. is_nothing a.atom) self.now.atoms result }
     {
         self.is_numbered();
-        self.store.droppable()
+        self.known.store.droppable()
     }
 
     /// The lowest number of an atom that can only be empty though two terms that are the same then
@@ -119,7 +119,7 @@ impl State {
     fn first_forced(&self) -> Option<(u32, Term, Term)>
         ensures { result ≡ first_forced self.now self.now.atoms }
     {
-        self.store.forced()
+        self.known.store.forced()
     }
 
     /// The lowest number of an atom that is of that kind at the term. `None` exactly where there is
@@ -127,6 +127,6 @@ impl State {
     pub fn lowest_at(&self, t: Term, kind: Kind) -> Option<u32>
         ensures { IsLowest (λ a. is_kind kind t a.atom) self.now.atoms result }
     {
-        self.store.lowest_at(t, kind)
+        self.known.store.lowest_at(t, kind)
     }
 }

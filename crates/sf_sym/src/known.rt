@@ -11,7 +11,7 @@ impl State {
     pub fn allocated(&self, t: Term, except: Option<u32>) -> bool
         ensures { result ≡ allocated self.now t except }
     {
-        self.store.allocated(t, except)
+        self.known.store.allocated(t, except)
     }
 
     /// Whether two terms surely differ: at once, or as a constant and a location, or as the
@@ -19,7 +19,7 @@ impl State {
     pub fn differs(&self, t: Term, u: Term) -> bool
         ensures { result ≡ differs self.now t u }
     {
-        self.store.differs(t, u)
+        self.known.store.differs(t, u)
     }
 
     /// Whether no store and heap have the state: a term would differ from itself, or a constant
@@ -28,7 +28,7 @@ impl State {
     pub fn is_absurd(&self) -> bool
         ensures { result ≡ is_absurd self.now }
     {
-        self.store.is_absurd()
+        self.known.store.is_absurd()
     }
 
     /// Has the next tests look only at what changes from now on, if those of now find nothing. The
@@ -36,6 +36,6 @@ impl State {
     pub fn settle(&mut self)
         ensures { self.new ≡ self.old }
     {
-        self.store.settle();
+        self.known.store.settle();
     }
 }

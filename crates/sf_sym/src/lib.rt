@@ -70,4 +70,4 @@ pub use stuck::Stuck;
 pub use tag::Tag;
 pub use term::Term;
 pub use todo::{next_item, peek_item, with_add, with_take};
-pub use vars::fresh_for;
+pub use vars::{fresh_for, term_at};

@@ -141,7 +141,9 @@ impl Pairs {
     pub(crate) fn copy(&self, alloc: Global) -> Result<Pairs, AllocError>
         ensures { IfOk result (λ pairs. pairs ≡ self.now) }
     {
-        let list = Vec::from_slice(alloc, self.list.as_slice())?;
+        // With room for one more: where a goal is split, its copy gets a pair at once.
+        let mut list = Vec::with_capacity(alloc, self.list.len().saturating_add(1))?;
+        list.extend_from_slice(self.list.as_slice())?;
         let set = copied(self.list.as_slice(), &self.set)?;
         Ok(Pairs {
             list,

@@ -38,10 +38,14 @@ impl Rows {
         }
     }
 
-    /// The rows at a term.
+    /// The rows at a term. Where there are none at all, no term is looked for: that is so for states
+    /// of which only the variables are known.
     pub(crate) fn at(&self, t: Term) -> &[Row]
         ensures { result.now ≡ rows_at self.now t }
     {
+        if self.table.is_empty() {
+            return &[];
+        }
         match self.table.get(&t) {
             Some(rows) => rows.as_slice(),
             None => &[],

@@ -7,7 +7,7 @@ ghost use Rattle.sf_sym.specs.Below.{AllPaired, IsBelow};
 ghost use Rattle.sf_sym.specs.Cells.{after_hand_over, apart_from_nil, atom_at, cell_at, fields_at, handed, state_after_write, with_atom, with_cell, without};
 ghost use Rattle.sf_sym.specs.Equalities.{put_for, state_with, with_pair};
 ghost use Rattle.sf_sym.specs.Numbers.{AreNumbered, numbers};
-ghost use Rattle.sf_sym.specs.State.{first_state, term_at, with_symbols};
+ghost use Rattle.sf_sym.specs.State.{first_state, term, term_at, with_symbols};
 ghost use Rattle.sf_sym.specs.Variables.{AreInOrder, remove_vars, set_var, set_vars, with_fresh};
 ghost use Rattle.sf_sym.specs.declared.atom.Atom.{Atom as AtomOf};
 ghost use Rattle.sf_sym.specs.declared.term.Term.{Term as TermOf};
@@ -18,24 +18,37 @@ use crate::fields::FieldTerms;
 use crate::replace::Replacement;
 use crate::store::Store;
 use crate::term::Term;
-use crate::vars::{VarTerms, term_at};
+use crate::vars::VarTerms;
 use sf_base::{FieldId, Var};
-use sf_core::Links;
+use sf_core::{Expr, Links};
 use std::alloc::{AllocError, Global};
 use std::marker::Model;
 
 /// What is known of the variables and of the heap at one point of a procedure. Contracts see it as
 /// the record `State`; what isn't listed there is how the code finds things.
 pub struct State {
+    /// All that it knows, in a box: a state is moved wherever a goal is.
+    pub(crate) known: Box<Known>,
+}
+
+/// What a state knows.
+pub(crate) struct Known {
     links: Links,
     vars: VarTerms,
     next_sym: u32,
-    pub(crate) store: Box<Store>,
+    pub(crate) store: Store,
 }
 
+// A call for the proofs of those who drop one, as that of `Index`.
 impl Drop for State {
     fn drop(self) {
-        let State {
+        let State { known: _ } = self;
+    }
+}
+
+impl Drop for Known {
+    fn drop(self) {
+        let Known {
             links: _,
             vars: _,
             next_sym: _,
@@ -51,9 +64,9 @@ impl Model for State {
 
     ghost use Rattle.sf_sym.specs.Checked.Stores.{Kept, heap, state_in};
 
-    ghost invariant = { λ s. Kept s.store.value };
+    ghost invariant = { λ s. Kept s.known.value.store };
 
-    ghost view = { λ s. state_in s.links s.vars s.next_sym (heap s.store.value) };
+    ghost view = { λ s. let k = s.known.value in state_in k.links k.vars k.next_sym (heap k.store) };
 }
 
 impl State {
@@ -70,12 +83,14 @@ impl State {
         requires below { AllPaired (IsBelow next_sym) vars.items }
         ensures { IfOk result (λ s. s ≡ first_state links vars.items next_sym) }
     {
-        let store = Box::new(alloc, Store::new(alloc))?;
-        Ok(State {
+        let known = Known {
             links,
             vars: VarTerms::from_vec(vars),
             next_sym,
-            store,
+            store: Store::new(alloc),
+        };
+        Ok(State {
+            known: Box::new(alloc, known)?,
         })
     }
 
@@ -83,12 +98,14 @@ impl State {
     pub fn copy(&self, alloc: Global) -> Result<State, AllocError>
         ensures { IfOk result (λ state. state ≡ self.now) }
     {
-        let store = Box::new(alloc, self.store.copy(alloc)?)?;
+        let known = Known {
+            links: self.known.links,
+            vars: self.known.vars.copy(alloc)?,
+            next_sym: self.known.next_sym,
+            store: self.known.store.copy(alloc)?,
+        };
         Ok(State {
-            links: self.links,
-            vars: self.vars.copy(alloc)?,
-            next_sym: self.next_sym,
-            store,
+            known: Box::new(alloc, known)?,
         })
     }
 
@@ -96,28 +113,28 @@ impl State {
     pub fn links(&self) -> Links
         ensures { result ≡ self.now.links }
     {
-        self.links
+        self.known.links
     }
 
     /// The terms of the variables, in the order of the variables.
     pub fn vars(&self) -> &[(Var, Term)]
         ensures { result.now ≡ self.now.vars }
     {
-        self.vars.as_slice()
+        self.known.vars.as_slice()
     }
 
     /// The pairs of terms that differ.
     pub fn apart(&self) -> &[(Term, Term)]
         ensures { result.now ≡ self.now.apart }
     {
-        self.store.apart.as_slice()
+        self.known.store.apart.as_slice()
     }
 
     /// The parts of the heap, in order of their numbers.
     pub fn atoms(&self) -> &[Numbered]
         ensures { result.now ≡ self.now.atoms }
     {
-        self.store.atoms.as_slice()
+        self.known.store.atoms.as_slice()
     }
 
     /// The parts that were handed over in the subtraction now under way, in the order in which they
@@ -125,21 +142,21 @@ impl State {
     pub fn taken(&self) -> &[Numbered]
         ensures { result.now ≡ self.now.taken }
     {
-        self.store.taken.as_slice()
+        self.known.store.taken.as_slice()
     }
 
     /// The number of the next symbol.
     pub fn next_sym(&self) -> u32
         ensures { result ≡ self.now.next_sym }
     {
-        self.next_sym
+        self.known.next_sym
     }
 
     /// The number of the next atom.
     pub fn next_atom(&self) -> u32
         ensures { result ≡ self.now.next_atom }
     {
-        self.store.next_atom
+        self.known.store.next_atom
     }
 
     /// The numbers of the atoms rise, the taken ones have others, and all are below the next one.
@@ -147,7 +164,7 @@ impl State {
     pub fn is_numbered(&self)
         ensures { AreNumbered (numbers self.now.atoms) (numbers self.now.taken) self.now.next_atom }
     {
-        let _next = self.store.next_atom;
+        let _next = self.known.store.next_atom;
     }
 
     /// The known fields of the atom of that number, where it is a cell at that term.
@@ -155,21 +172,32 @@ impl State {
     pub fn cell(&self, a: u32, root: Term) -> Option<&[(FieldId, Term)]>
         ensures { option_map (λ x. x.now) result ≡ cell_at self.now.atoms a root }
     {
-        self.store.atoms.atom(a)?.fields_at(root)
+        self.known.store.atoms.atom(a)?.fields_at(root)
     }
 
     /// The atom of that number.
     pub fn atom(&self, a: u32) -> Option<&Atom>
         ensures { option_map (λ x. x.now) result ≡ atom_at self.now.atoms a }
     {
-        self.store.atoms.atom(a)
+        self.known.store.atoms.atom(a)
     }
 
     /// The term of a variable, `Nil` where it has none.
     pub fn term_at(&self, x: Var) -> Term
         ensures { result ≡ term_at self.now.vars x }
     {
-        term_at(self.vars.as_slice(), x)
+        self.known.vars.term_at(x)
+    }
+
+    /// The term of an expression.
+    pub fn term(&self, e: &Expr) -> Term
+        ensures { result ≡ term self.now.vars e.now }
+    {
+        match e {
+            Expr::Var(x) => self.term_at(x.var),
+            Expr::Nil => Term::Nil,
+            Expr::Int(i) => Term::Int(*i),
+        }
     }
 
     /// A symbol that doesn't occur yet.
@@ -178,8 +206,8 @@ impl State {
         ensures symbol { result ≡ Sym self.old.next_sym }
         ensures counted { self.new ≡ with_symbols 1 self.old }
     {
-        let fresh = Term::Sym(self.next_sym);
-        self.next_sym += 1;
+        let fresh = Term::Sym(self.known.next_sym);
+        self.known.next_sym += 1;
         fresh
     }
 
@@ -188,7 +216,7 @@ impl State {
         requires { self.old.next_sym + count < 2 ^ 32 }
         ensures { self.new ≡ with_symbols count self.old }
     {
-        self.next_sym += count;
+        self.known.next_sym += count;
     }
 
     /// Sets a variable. An `Err` means out of memory, and then nothing changes.
@@ -197,7 +225,7 @@ impl State {
             (self.new ≡ record self.old { vars = set_var x t self.old.vars }) }
         ensures err { OnErr result (self.new ≡ self.old) }
     {
-        self.vars.set(x, t)?;
+        self.known.vars.set(x, t)?;
         Ok(())
     }
 
@@ -207,7 +235,7 @@ impl State {
             (self.new ≡ record self.old { vars = set_vars xs.now self.old.vars }) }
         ensures err { OnErr result (self.new ≡ self.old) }
     {
-        self.vars.set_all(xs)?;
+        self.known.vars.set_all(xs)?;
         Ok(())
     }
 
@@ -220,7 +248,7 @@ impl State {
     ) -> Result<Vec<(Var, Term)>, AllocError>
         ensures { IfOk result (λ vars. vars.items ≡ set_vars xs.now self.now.vars) }
     {
-        let vars = self.vars.after(alloc, xs)?;
+        let vars = self.known.vars.after(alloc, xs)?;
         Ok(vars)
     }
 
@@ -231,8 +259,9 @@ impl State {
         ensures ok { OnOk result (self.new ≡ with_fresh xs.now self.old) }
         ensures err { OnErr result (self.new ≡ self.old) }
     {
-        self.vars.set_fresh(self.next_sym, xs)?;
-        self.next_sym += xs.len() as u32;
+        let next = self.known.next_sym;
+        self.known.vars.set_fresh(next, xs)?;
+        self.known.next_sym += xs.len() as u32;
         Ok(())
     }
 
@@ -240,21 +269,21 @@ impl State {
     pub fn remove_vars(&mut self, xs: &[Var])
         ensures { self.new ≡ record self.old { vars = remove_vars xs.now self.old.vars } }
     {
-        self.vars.remove_all(xs);
+        self.known.vars.remove_all(xs);
     }
 
     /// Forgets the parts that were handed over.
     pub fn clear_taken(&mut self)
         ensures { self.new ≡ record self.old { taken = [] } }
     {
-        self.store.clear_taken();
+        self.known.store.clear_taken();
     }
 
     /// Forgets the parts of the heap, and those that were handed over.
     pub fn clear_heap(&mut self)
         ensures { self.new ≡ record self.old { atoms = []; taken = [] } }
     {
-        self.store.clear_heap();
+        self.known.store.clear_heap();
     }
 
     /// One more atom, with the next number. An `Err` means out of memory, and then nothing changes.
@@ -263,7 +292,7 @@ impl State {
         ensures ok { OnOk result (self.new ≡ with_atom atom self.old) }
         ensures err { OnErr result (self.new ≡ self.old) }
     {
-        self.store.add_atom(atom)?;
+        self.known.store.add_atom(atom)?;
         Ok(())
     }
 
@@ -272,7 +301,7 @@ impl State {
         ensures atom { result ≡ atom_at self.old.atoms a }
         ensures others { self.new ≡ record self.old { atoms = without self.old.atoms a } }
     {
-        self.store.remove_atom(a)
+        self.known.store.remove_atom(a)
     }
 
     /// One more cell: it has the next number, and a symbol at which it is differs from nil. An
@@ -282,7 +311,7 @@ impl State {
         ensures ok { OnOk result (self.new ≡ with_cell self.old root fields) }
         ensures err { OnErr result (self.new ≡ self.old) }
     {
-        self.store.add_cell(root, fields)?;
+        self.known.store.add_cell(root, fields)?;
         Ok(())
     }
 
@@ -291,7 +320,7 @@ impl State {
         ensures ok { OnOk result (self.new ≡ with_pair t u self.old) }
         ensures err { OnErr result (self.new ≡ self.old) }
     {
-        self.store.assume_apart(t, u)?;
+        self.known.store.assume_apart(t, u)?;
         Ok(())
     }
 
@@ -300,8 +329,8 @@ impl State {
         ensures ok { OnOk result (self.new ≡ state_with (put_for r.symbol r.by) self.old) }
         ensures err { OnErr result (self.new ≡ self.old) }
     {
-        self.store.replace(r)?;
-        self.vars.replace(r);
+        self.known.store.replace(r)?;
+        self.known.vars.replace(r);
         Ok(())
     }
 
@@ -312,7 +341,7 @@ impl State {
         ensures ok { OnOk result (state_after_write self.old root f u a ≡ Some self.new) }
         ensures err { OnErr result (self.new ≡ self.old) }
     {
-        self.store.write_field(a, root, f, u)?;
+        self.known.store.write_field(a, root, f, u)?;
         Ok(())
     }
 
@@ -336,7 +365,7 @@ impl State {
             → self.new ≡ handed self.old a x) }
         ensures err { OnErr result (self.new ≡ self.old) }
     {
-        self.store.hand_over_atom(a)?;
+        self.known.store.hand_over_atom(a)?;
         Ok(())
     }
 
@@ -356,8 +385,8 @@ impl State {
             ≡ after_hand_over (record self.old { next_sym = next_sym }) root fields a) }
         ensures err { OnErr result (self.new ≡ self.old) }
     {
-        self.store.hand_over_cell(a, root, fields)?;
-        self.next_sym = next_sym;
+        self.known.store.hand_over_cell(a, root, fields)?;
+        self.known.next_sym = next_sym;
         Ok(())
     }
 

@@ -58,6 +58,18 @@ impl VarTerms {
         self.items.as_slice()
     }
 
+    /// The term of a variable, `Nil` where it has none. It looks first where own variables are as
+    /// long as all are there: at the variable's number.
+    #[tactic(auto, using(crate::proofs::VariableLists::term_there))]
+    pub(crate) fn term_at(&self, x: Var) -> Term
+        ensures { result ≡ term_at self.now x }
+    {
+        match self.items.get(number_of(x)) {
+            Some(v) if v.0.is_same(x) => v.1,
+            _ => term_at(&self.items, x),
+        }
+    }
+
     /// Sets a variable. An `Err` means out of memory, and then nothing changes.
     pub(crate) fn set(&mut self, x: Var, t: Term) -> Result<(), AllocError>
         ensures ok { OnOk result (self.new ≡ set_var x t self.old) }
@@ -135,6 +147,13 @@ impl VarTerms {
     }
 }
 
+/// The number of a variable, among the own ones or among its resource's.
+fn number_of(x: Var) -> usize {
+    match x {
+        Var::Own(i) | Var::Shared(_, i) => i as usize,
+    }
+}
+
 /// The index of a variable.
 fn index_of(vars: &[(Var, Term)], x: Var) -> Option<usize>
     ensures index { result ≡ position (λ v. same_var v.0 x) vars.now }
@@ -144,7 +163,7 @@ fn index_of(vars: &[(Var, Term)], x: Var) -> Option<usize>
 }
 
 /// The term of a variable, `Nil` where it has none.
-pub(crate) fn term_at(vars: &[(Var, Term)], x: Var) -> Term
+pub fn term_at(vars: &[(Var, Term)], x: Var) -> Term
     ensures { result ≡ term_at vars.now x }
 {
     let mut left = vars;

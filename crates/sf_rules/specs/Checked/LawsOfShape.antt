@@ -4,9 +4,11 @@
 use Rattle.std.specs.Prelude.{◌≡◌, ℕ, ◌+◌, ◌-◌, ◌*◌, ◌≤◌, List, Some}
 use Rattle.std.specs.List.{AllByRecursion, slice_get}
 use Rattle.sf_base.specs.declared.ids.ProcId.{ProcId}
+use Rattle.sf_calls.specs.Checked.Laws.{ChangesAreAssigned, FirstBreachIsBroken, HeldResourcesAreThere}
 use Rattle.sf_calls.specs.FirstBreach.{Conditions}
 use Rattle.sf_core.specs.Program.Formed.{IsFormed}
 use Rattle.sf_core.specs.Program.Syntax.{Procedure}
+use Rattle.sf_precise.specs.Checked.Laws.{DeterminedHasOrder, NeverTakenIsUndetermined, OrderKeepsForm, UndeterminedHasPlace}
 use Rattle.sf_rules.specs.declared.few.TheConstants.{TOO_MANY}
 use Rattle.sf_rules.specs.First.{first_goal}
 use Rattle.sf_rules.specs.Rules.{Leaves}
@@ -15,6 +17,16 @@ use Rattle.sf_rules.specs.Shape.{IsGoalAfter, IsShaped}
 use Rattle.sf_sym.specs.declared.tag.Tag.{Tag}
 use Rattle.sf_sym.specs.Goal.{Goal}
 use Rattle.sf_sym.specs.State.{State}
+
+-- the laws of the crates below on which it rests that a program's annotations and bodies fit
+pub record LawsBelow : Type 0 where
+  pub assigned : ChangesAreAssigned
+  pub breaches : FirstBreachIsBroken
+  pub held : HeldResourcesAreThere
+  pub decided : UndeterminedHasPlace
+  pub never : NeverTakenIsUndetermined
+  pub ordered : DeterminedHasOrder
+  pub form : OrderKeepsForm
 
 -- a program that is well formed, and breaks no condition on variables, has that setting
 pub record IsSetUp (d : Setting) : Type 0 where

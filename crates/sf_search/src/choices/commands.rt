@@ -11,7 +11,7 @@ use crate::choices::atoms::at_cell;
 use crate::choices::branches::at_test;
 use crate::choices::choice::Choice;
 use sf_core::Command;
-use sf_rules::{command_test, term_of};
+use sf_rules::command_test;
 use sf_sym::{State, Stuck, Tag, Term};
 
 /// What the strategy does at a command.
@@ -20,11 +20,11 @@ pub(crate) fn at_command(state: &State, command: &Command) -> Choice
 {
     match command {
         Command::Assign(..) => Choice::Takes(Tag::Assign),
-        Command::LookUp(_, _, e, _) => at_look_up(state, term_of(state.vars(), e)),
-        Command::Mutate(_, e, _, _) => at_mutation(state, term_of(state.vars(), e)),
+        Command::LookUp(_, _, e, _) => at_look_up(state, state.term(e)),
+        Command::Mutate(_, e, _, _) => at_mutation(state, state.term(e)),
         Command::New(..) => Choice::Takes(Tag::New),
-        Command::Dispose(_, e) => at_disposal(state, term_of(state.vars(), e)),
-        Command::If(_, test, _, _) => at_test(state, &command_test(state.vars(), test)),
+        Command::Dispose(_, e) => at_disposal(state, state.term(e)),
+        Command::If(_, test, _, _) => at_test(state, &command_test(state, test)),
         Command::While(..) => Choice::Takes(Tag::Loop),
         Command::Call(..) => Choice::Takes(Tag::Call),
         Command::Fork(..) => Choice::Takes(Tag::Fork),

@@ -2,12 +2,4 @@ use Rattle.sf_rules.proofs.GoalShapes.{first_goals_are_shaped}
 use Rattle.sf_rules.proofs.laws.first_goals_are_shaped.Goals as goal
 
 pub returns : goal.returns
-returns c = first_goals_are_shaped (record {
-  assigned = c.changes_are_assigned.ensures;
-  breaches = c.first_breach_is_broken.ensures;
-  held = c.held_resources_are_there.ensures;
-  decided = c.undetermined_has_place.ensures;
-  never = c.never_taken_is_undetermined.ensures;
-  ordered = c.determined_has_order.ensures;
-  form = c.order_keeps_form.ensures;
-})
+returns c = first_goals_are_shaped c.laws_below.ensures

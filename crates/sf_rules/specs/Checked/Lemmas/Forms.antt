@@ -24,37 +24,21 @@ module _ (to : Term → Term) where
   body-with [] b = b
   body-with (run c ∷ rest) b = body-with rest b
   body-with (exit q r ∷ rest) b = body-with rest b
-  body-with (again q invariant ∷ rest) b = b
-  body-with (return q post ∷ rest) b = b
-  body-with (add q given ∷ rest) b = b
-  body-with (take q want names ∷ rest) b = b
-  body-with (gave q set removed ∷ rest) b = b
-  body-with (head q test invariant body ∷ rest) b = b
-  body-with (end q ∷ rest) b = b
+  body-with (item ∷ rest) b = b
 
   pub assuming-with : (todo : List Item) → IsAssuming todo → IsAssuming (map (item_with to) todo)
   assuming-with [] b = b
   assuming-with (add q given ∷ rest) b = assuming-with rest b
   assuming-with (run c ∷ rest) b = body-with rest b
   assuming-with (exit q r ∷ rest) b = body-with rest b
-  assuming-with (again q invariant ∷ rest) b = b
-  assuming-with (return q post ∷ rest) b = b
-  assuming-with (take q want names ∷ rest) b = b
-  assuming-with (gave q set removed ∷ rest) b = b
-  assuming-with (head q test invariant body ∷ rest) b = b
-  assuming-with (end q ∷ rest) b = b
+  assuming-with (item ∷ rest) b = b
 
   pub showing-with : (todo : List Item) → IsShowing todo → IsShowing (map (item_with to) todo)
   showing-with [] b = b
   showing-with (take q want names ∷ rest) b = showing-with rest b
   showing-with (gave q set removed ∷ rest) b = assuming-with rest b
   showing-with (head q test invariant body ∷ rest) b = body-with rest b
-  showing-with (end q ∷ rest) b = b
-  showing-with (run c ∷ rest) b = b
-  showing-with (add q given ∷ rest) b = b
-  showing-with (exit q r ∷ rest) b = b
-  showing-with (again q invariant ∷ rest) b = b
-  showing-with (return q post ∷ rest) b = b
+  showing-with (item ∷ rest) b = b
 
   pub with-form : (goal child : Goal) → child.todo ≡ map (item_with to) goal.todo
       → (goal.state.taken ≡ [] → child.state.taken ≡ []) → HasForm goal → HasForm child

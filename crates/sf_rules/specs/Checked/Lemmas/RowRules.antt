@@ -5,7 +5,7 @@ use Rattle.std.specs.Prelude.{set}
 use Rattle.std.specs.List.{slice_get}
 use Rattle.std.specs.Option.{option_and_then, option_map}
 use Rattle.std.proofs.lemmas.Bool.Decides.{Decides-ltb}
-use Rattle.std.proofs.lemmas.Option.{cond_some, option_and_then_some, same_Some}
+use Rattle.std.proofs.lemmas.Option.{cond_some, none-some, option_and_then_some, same_Some}
 use Rattle.sf_base.specs.declared.ids.FieldId.{FieldId}
 use Rattle.sf_base.specs.declared.place.Place.{Place}
 use Rattle.sf_calls.specs.Changes.{changed}
@@ -110,38 +110,18 @@ module _ (d : Setting) (s : State) (left : List Goal) where
   list-links todo a t u there differ (Some next) at k =
       leaves _ left (same_Some _ left k) (rule.unroll_list there differ at)
 
-  tree-links : (todo : List Item) (a : ℕ) (t : Term) → atom_at s.atoms a ≡ Some (Tree t)
-      → differs s t Nil ≡ true
-      → (o q : Option FieldId) → s.links.l ≡ o → s.links.r ≡ q
-      → option_map (λ z. (z ⊢ todo) ∷ [])
-      (unrolled_tree o q t (record s { atoms = without s.atoms a })) ≡ Some left
-      → Rule d s todo (tag.Unroll a) left
-  tree-links todo a t there differ None q l r k = absurd (cc)
-  tree-links todo a t there differ (Some left_link) None l r k = absurd (cc)
-  tree-links todo a t there differ (Some one) (Some two) l r k =
-      leaves _ left (same_Some _ left k) (rule.unroll_tree there differ l r)
-
-  double-links : (todo : List Item) (a : ℕ) (t p l u : Term) → atom_at s.atoms a ≡ Some (Dll t p l u)
-      → differs s t u ≡ true
-      → (o q : Option FieldId) → s.links.tl ≡ o → s.links.pv ≡ q
-      → option_map (λ z. (z ⊢ todo) ∷ [])
-      (unrolled_double o q t p l u (record s { atoms = without s.atoms a })) ≡ Some left
-      → Rule d s todo (tag.Unroll a) left
-  double-links todo a t p l u there differ None q tl pv k = absurd (cc)
-  double-links todo a t p l u there differ (Some next) None tl pv k = absurd (cc)
-  double-links todo a t p l u there differ (Some next) (Some previous) tl pv k =
-      leaves _ left (same_Some _ left k) (rule.unroll_double there differ tl pv)
-
-  last-links : (todo : List Item) (a : ℕ) (t p l u : Term) → atom_at s.atoms a ≡ Some (Dll t p l u)
-      → differs s t u ≡ true
-      → (o q : Option FieldId) → s.links.tl ≡ o → s.links.pv ≡ q
-      → option_map (λ z. (z ⊢ todo) ∷ [])
-      (unrolled_last o q t p l u (record s { atoms = without s.atoms a })) ≡ Some left
-      → Rule d s todo (tag.Back a) left
-  last-links todo a t p l u there differ None q tl pv k = absurd (cc)
-  last-links todo a t p l u there differ (Some next) None tl pv k = absurd (cc)
-  last-links todo a t p l u there differ (Some next) (Some previous) tl pv k =
-      leaves _ left (same_Some _ left k) (rule.back there differ tl pv)
+  -- an unrolling that needs two links, where the goal that it leaves goes by them
+  two-links : (unrolled : Option FieldId → Option FieldId → Option State) → ((q : Option FieldId) → unrolled None q ≡ None)
+      → ((one : FieldId) → unrolled (Some one) None ≡ None) → (todo : List Item) (tag : Tag) (o q : Option FieldId)
+      →
+      ((one two : FieldId) → o ≡ Some one → q ≡ Some two
+      → option_map (λ z. (z ⊢ todo) ∷ []) (unrolled (Some one) (Some two)) ≡ Some left → Rule d s todo tag left)
+      → option_map (λ z. (z ⊢ todo) ∷ []) (unrolled o q) ≡ Some left → Rule d s todo tag left
+  two-links unrolled no_one no_two todo tag None q then k =
+      absurd (none-some left (sym (ap (option_map (λ z. (z ⊢ todo) ∷ [])) (no_one q)) ∙ k))
+  two-links unrolled no_one no_two todo tag (Some one) None then k =
+      absurd (none-some left (sym (ap (option_map (λ z. (z ⊢ todo) ∷ [])) (no_two one)) ∙ k))
+  two-links unrolled no_one no_two todo tag (Some one) (Some two) then k = then one two refl refl k
 
   unroll-rule : (todo : List Item) (a : ℕ) → unroll_row (s ⊢ todo) a ≡ Some left
       → Rule d s todo (tag.Unroll a) left
@@ -155,10 +135,14 @@ module _ (d : Setting) (s : State) (left : List Goal) where
           list-links todo a t u there b.0 s.links.tl refl b.1
       go (Tree t) there k =
           let b = cond-then (differs s t Nil) _ left k in
-          tree-links todo a t there b.0 s.links.l s.links.r refl refl b.1
+          two-links (λ o q. unrolled_tree o q t (record s { atoms = without s.atoms a })) (λ q. refl) (λ one. refl) todo
+          (tag.Unroll a) s.links.l s.links.r
+          (λ one two l r z. leaves _ left (same_Some _ left z) (rule.unroll_tree there b.0 l r)) b.1
       go (Dll t p l u) there k =
           let b = cond-then (differs s t u) _ left k in
-          double-links todo a t p l u there b.0 s.links.tl s.links.pv refl refl b.1
+          two-links (λ o q. unrolled_double o q t p l u (record s { atoms = without s.atoms a })) (λ q. refl)
+          (λ one. refl) todo (tag.Unroll a) s.links.tl s.links.pv
+          (λ next back tl pv z. leaves _ left (same_Some _ left z) (rule.unroll_double there b.0 tl pv)) b.1
 
   back-rule : (todo : List Item) (a : ℕ) → back_row (s ⊢ todo) a ≡ Some left
       → Rule d s todo (tag.Back a) left
@@ -171,7 +155,9 @@ module _ (d : Setting) (s : State) (left : List Goal) where
       go (Tree t) there k = absurd (cc)
       go (Dll t p l u) there k =
           let b = cond-then (differs s t u) _ left k in
-          last-links todo a t p l u there b.0 s.links.tl s.links.pv refl refl b.1
+          two-links (λ o q. unrolled_last o q t p l u (record s { atoms = without s.atoms a })) (λ q. refl)
+          (λ one. refl) todo (tag.Back a) s.links.tl s.links.pv
+          (λ next back tl pv z. leaves _ left (same_Some _ left z) (rule.back there b.0 tl pv)) b.1
 
   -- COMMANDS
   assign-rule : (todo : List Item) → at_command (assign_row s) todo ≡ Some left
@@ -368,31 +354,34 @@ module _ (d : Setting) (s : State) (left : List Goal) where
       let second = met-meets one.state one.bindings y in
       (first.0, second.0, states-then s one.state two.state first.1 second.1)
 
+  -- what is known of them then, by a rule that says so
+  both-added : (p : Place) (cs : Conjuncts Term) (terms : List (Option Term)) (rest : List Item) (x y : Operand Term)
+      (item : Item) (told : Term → Term → Goal → Goal)
+      →
+      ((t u : Term) (n m : ℕ) (between ends : List (Option Term)) → Meets s.next_sym terms x t n between
+      → Meets n between y u m ends
+      → Rule d s (item ∷ rest) tag.Add (told t u (next_at m s ⊢ assume_rest p cs ends ++ rest) ∷ []))
+      → (let one = met s terms x in
+      let two = met one.state one.bindings y in
+      Some (told one.term two.term (two.state ⊢ assume_rest p cs two.bindings ++ rest) ∷ []) ≡ Some left)
+      → Rule d s (item ∷ rest) tag.Add left
+  both-added p cs terms rest x y item told by k =
+      let one = met s terms x in
+      let two = met one.state one.bindings y in
+      let are = met-both terms x y in
+      leaves _ left
+      (ap (λ z. told one.term two.term (z ⊢ assume_rest p cs two.bindings ++ rest) ∷ []) are.2 ∙ same_Some _ left k)
+      (by one.term two.term one.state.next_sym two.state.next_sym one.bindings two.bindings are.0 are.1)
+
   add-conjuncts : (p : Place) (cs : Conjuncts Term) (terms : List (Option Term)) (rest : List Item)
       → assume_row s p (record { conjuncts = cs; bindings = terms }) rest ≡ Some left
       → Rule d s (assume p cs terms ∷ rest) tag.Add left × IsFew (needed_to_assume cs)
   add-conjuncts p (also (holds q True) cs) terms rest k =
       (leaves _ left (same_Some _ left k) rule.add_true, refl)
   add-conjuncts p (also (holds q (Equal x y)) cs) terms rest k =
-      let one = met s terms x in
-      let two = met one.state one.bindings y in
-      let are = met-both terms x y in (
-        leaves _ left
-            (ap (λ z. assumed_equal one.term two.term (z ⊢ assume_rest p cs two.bindings ++ rest)
-            ∷ []) are.2
-            ∙ same_Some _ left k) (rule.add_equal are.0 are.1),
-        refl,
-      )
+      (both-added p cs terms rest x y _ assumed_equal (λ t u n m between ends one two. rule.add_equal one two) k, refl)
   add-conjuncts p (also (holds q (Differ x y)) cs) terms rest k =
-      let one = met s terms x in
-      let two = met one.state one.bindings y in
-      let are = met-both terms x y in (
-        leaves _ left
-            (ap (λ z. assumed_apart one.term two.term (z ⊢ assume_rest p cs two.bindings ++ rest)
-            ∷ []) are.2
-            ∙ same_Some _ left k) (rule.add_differ are.0 are.1),
-        refl,
-      )
+      (both-added p cs terms rest x y _ assumed_apart (λ t u n m between ends one two. rule.add_differ one two) k, refl)
   add-conjuncts p (also (points q x fs) cs) terms rest k =
       let one = met s terms x in
       let root = met-meets s terms x in

@@ -129,6 +129,13 @@ meets-row s _ _ _ _ _ _ (has {n = n} {terms = terms} {x = Known u} {t = t} e) =
 meets-row s _ _ _ _ _ _ (has {x = Exists k} e) = rw e refl
 meets-row s _ _ _ _ _ _ (met_first e) = rw e refl
 
+-- two of them, one after the other
+both-row : (s : State) {n m : ℕ} {terms between ends : List (Option Term)} {x y : Operand Term} {t u : Term}
+    → Meets s.next_sym terms x t n between → Meets n between y u m ends
+    → (met s terms x ≡ met_as s t n between) × (met (next_at n s) between y ≡ met_as s u m ends)
+both-row s {n} {m} {terms} {between} {ends} {x} {y} {t} {u} one two =
+    (meets-row s s.next_sym n terms between x t one, meets-row s n m between ends y u two)
+
 abbrev pub met_fields_as : State → List (FieldId × Term) → ℕ → List (Option Term) → MetFields
 met_fields_as s gs m ends = record { fields = gs; state = next_at m s; bindings = ends }
 
@@ -202,20 +209,8 @@ rule-row d s _ _ _ few rule.return = refl
 rule-row d s _ _ _ few rule.give = refl
 rule-row d s _ _ _ few (rule.end none) = rw none refl
 rule-row d s _ _ _ few rule.add_true = refl
-rule-row d s _ _ _ few
-    (rule.add_equal {x = x} {y = y} {t = t} {u = u} {terms = terms} {between = between}
-    {ends = ends} {n = n} {m = m} one two) =
-    let first : met s terms x ≡ met_as s t n between =
-    meets-row s s.next_sym n terms between x t one in
-    let second = meets-row s n m between ends y u two in
-    rw (first, second) refl
-rule-row d s _ _ _ few
-    (rule.add_differ {x = x} {y = y} {t = t} {u = u} {terms = terms} {between = between}
-    {ends = ends} {n = n} {m = m} one two) =
-    let first : met s terms x ≡ met_as s t n between =
-    meets-row s s.next_sym n terms between x t one in
-    let second = meets-row s n m between ends y u two in
-    rw (first, second) refl
+rule-row d s _ _ _ few (rule.add_equal one two) = let both = both-row s one two in rw (both.0, both.1) refl
+rule-row d s _ _ _ few (rule.add_differ one two) = let both = both-row s one two in rw (both.0, both.1) refl
 rule-row d s _ _ _ few
     (rule.add_cell {x = x} {t = t} {fs = fs} {gs = gs} {terms = terms} {between = between}
     {ends = ends} {n = n} {m = m} one all) =
@@ -223,13 +218,7 @@ rule-row d s _ _ _ few
     meets-row s s.next_sym n terms between x t one in
     let others = meets_all-row s n m between ends [] gs fs all in
     rw (few, first, others) refl
-rule-row d s _ _ _ few
-    (rule.add_list {x = x} {y = y} {t = t} {u = u} {terms = terms} {between = between}
-    {ends = ends} {n = n} {m = m} one two) =
-    let first : met s terms x ≡ met_as s t n between =
-    meets-row s s.next_sym n terms between x t one in
-    let second = meets-row s n m between ends y u two in
-    rw (first, second) refl
+rule-row d s _ _ _ few (rule.add_list one two) = let both = both-row s one two in rw (both.0, both.1) refl
 rule-row d s _ _ _ few
     (rule.add_double {x = x} {b = b} {l = l} {y = y} {t = t} {r = r} {m = m} {u = u} {terms = terms}
     {one = one} {two = two} {three = three} {ends = ends} {i = i} {j = j} {k = k} {n = n} from before

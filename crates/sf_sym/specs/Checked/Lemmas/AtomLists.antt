@@ -1,8 +1,9 @@
 -- Lists of atoms: one is taken out, one comes in place of another, one more comes, and what is said of every one.
--- Names: `atoms-LAW` of the heap that atoms hold on, `without-LAW` of a list without one.
+-- Names: `atoms-LAW` of the heap that atoms hold on, `without-LAW` of a list without one, `numbers-LAW` of their numbers.
 use Rattle.std.specs.List.{list_any, AllByRecursion}
-use Rattle.std.proofs.Common.{◌≡◌, ℕ, ◌==◌, Bool, true, false, cond, List, [], ◌∷◌, ◌++◌, Some, refl, subst, inl, inr}
+use Rattle.std.proofs.Common.{◌≡◌, ℕ, ◌==◌, Bool, true, false, cond, List, [], ◌∷◌, ◌++◌, Some, refl, sym, ap, subst, inl, inr}
 use Rattle.std.proofs.lemmas.Bool.{or_cases, or_left, or_right}
+use Rattle.std.proofs.lemmas.Bool.Decides.{Decides-eqb}
 use Rattle.sf_base.proofs.HeapSplits.{star-comm, star-empty_right, star-map_left, star-map_right, star-swap}
 use Rattle.sf_base.specs.declared.ids.FieldId.{FieldId}
 use Rattle.sf_base.specs.declared.value.Value.{Value}
@@ -14,6 +15,7 @@ use Rattle.sf_sym.specs.declared.atom.Atom.TheVariants.{Points}
 use Rattle.sf_sym.specs.declared.atom.Numbered.{Numbered}
 use Rattle.sf_sym.specs.declared.term.Term.{Term}
 use Rattle.sf_sym.specs.Holds.{AtomHolds, AtomsHold}
+use Rattle.sf_sym.specs.Numbers.{numbers}
 use Rattle.sf_sym.specs.Checked.Lemmas.{atoms-append, points_at}
 
 -- a cell at a term is the atom of its number
@@ -136,3 +138,15 @@ module _ (Q : Atom → Type 0) where
           (cond b (record { number = a; atom = Points t fields } ∷ ys) (y ∷ with_fields ys a t fields))
       go true r = (n, h.1)
       go false r = (h.0, r)
+
+-- the numbers stay where a cell comes in place of the atom of its number
+pub numbers-fields : (xs : List Numbered) (a : ℕ) (t : Term) (fields : List (FieldId × Term))
+    → numbers (with_fields xs a t fields) ≡ numbers xs
+numbers-fields [] a t fields = refl
+numbers-fields (x ∷ xs) a t fields = go (x.number == a) refl (numbers-fields xs a t fields)
+  where
+    go : (b : Bool) → x.number == a ≡ b → numbers (with_fields xs a t fields) ≡ numbers xs
+        → numbers (cond b (record { number = a; atom = Points t fields } ∷ xs) (x ∷ with_fields xs a t fields))
+        ≡ x.number ∷ numbers xs
+    go true e rest = ap (λ n. n ∷ numbers xs) (sym ((Decides-eqb x.number a).0 e))
+    go false e rest = ap (λ ns. x.number ∷ ns) rest

@@ -59,12 +59,7 @@ module _ (P Q : Term → Type 0) (weaker : (t : Term) → P t → Q t) where
   item-weaker (add p given) a = pending-weaker given a
   item-weaker (take p want names) a = pending-weaker want a
   item-weaker (gave p set removed) a = paired-weaker set a
-  item-weaker (run c) a = tt
-  item-weaker (head p test invariant body) a = tt
-  item-weaker (again p invariant) a = tt
-  item-weaker (exit p r) a = tt
-  item-weaker (return p post) a = tt
-  item-weaker (end p) a = tt
+  item-weaker item a = tt
 
   pub items-weaker : (items : List Item) → AllByRecursion (AllInItem P) items
       → AllByRecursion (AllInItem Q) items

@@ -115,6 +115,13 @@ pub branch-formed : (so : Bool) (links : Links) (count : ℕ) (place : Place) (t
 branch-formed true links count place test this that k = level-formed links count this k.1
 branch-formed false links count place test this that k = level-formed links count that k.2
 
+-- what puts scopes before others does so where it is done to what another put before them
+joined-rest : (f g : List Scope → List Scope) → ((rest : List Scope) → f rest ≡ f [] ++ rest)
+    → ((rest : List Scope) → g rest ≡ g [] ++ rest) → (rest : List Scope) → f (g rest) ≡ f (g []) ++ rest
+joined-rest f g before_f before_g rest =
+    before_f (g rest) ∙ ap (λ ss. f [] ++ ss) (before_g rest) ∙ sym (append_assoc (f []) (g []) rest)
+    ∙ ap (λ ss. ss ++ rest) (sym (before_f (g [])))
+
 -- Scopes
 module _ {E : Type 0} where
   mutual
@@ -125,10 +132,7 @@ module _ {E : Type 0} where
         → conjuncts_scopes cs rest ≡ conjuncts_scopes cs [] ++ rest
     conjuncts-rest none rest = refl
     conjuncts-rest (also c cs) rest =
-        conjunct-rest c (conjuncts_scopes cs rest)
-        ∙ ap (λ ss. conjunct_scopes c [] ++ ss) (conjuncts-rest cs rest)
-        ∙ sym (append_assoc (conjunct_scopes c []) (conjuncts_scopes cs []) rest)
-        ∙ ap (λ ss. ss ++ rest) (sym (conjunct-rest c (conjuncts_scopes cs [])))
+        joined-rest (conjunct_scopes c) (conjuncts_scopes cs) (conjunct-rest c) (conjuncts-rest cs) rest
 
     conjunct-rest : (c : Conjunct E) (rest : List Scope) → conjunct_scopes c rest ≡ conjunct_scopes c [] ++ rest
     conjunct-rest (holds p t) rest = refl
@@ -137,10 +141,7 @@ module _ {E : Type 0} where
     conjunct-rest (doubly p next back x b l y) rest = refl
     conjunct-rest (tree p left right x) rest = refl
     conjunct-rest (choose p t this that) rest =
-        level-rest this (level_scopes that rest)
-        ∙ ap (λ ss. level_scopes this [] ++ ss) (level-rest that rest)
-        ∙ sym (append_assoc (level_scopes this []) (level_scopes that []) rest)
-        ∙ ap (λ ss. ss ++ rest) (sym (level-rest this (level_scopes that [])))
+        joined-rest (level_scopes this) (level_scopes that) (level-rest this) (level-rest that) rest
 
 -- no scope overlaps another one where some of them are left out
 drop-all : (P : Scope → Type 0) (xs ys zs : List Scope) → AllByRecursion P (xs ++ (ys ++ zs))

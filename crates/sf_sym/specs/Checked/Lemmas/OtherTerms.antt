@@ -265,12 +265,7 @@ module _ (P Q : Term → Type 0) (to : Term → Term) (makes : (t : Term) → P 
   all_item-with (add p given) a = all_pending-with given a
   all_item-with (take p want names) a = all_pending-with want a
   all_item-with (gave p set removed) a = paired-with set a
-  all_item-with (run c) a = tt
-  all_item-with (head p test invariant body) a = tt
-  all_item-with (again p invariant) a = tt
-  all_item-with (exit p r) a = tt
-  all_item-with (return p post) a = tt
-  all_item-with (end p) a = tt
+  all_item-with item a = tt
 
   all_items-with : (items : List Item) → AllByRecursion (AllInItem P) items
       → AllByRecursion (AllInItem Q) (map (item_with to) items)

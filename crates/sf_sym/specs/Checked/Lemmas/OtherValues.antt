@@ -79,14 +79,7 @@ module _ (w v : ℕ → Value) where
   adds-other_values (add p given ∷ items) heap s h =
       star-map (λ part d. pending-other_values given part s.0 d)
       (λ part d. adds-other_values items part s.1 d) h
-  adds-other_values (run c ∷ items) heap s h = h
-  adds-other_values (take p want names ∷ items) heap s h = h
-  adds-other_values (gave p set removed ∷ items) heap s h = h
-  adds-other_values (head p test invariant body ∷ items) heap s h = h
-  adds-other_values (again p invariant ∷ items) heap s h = h
-  adds-other_values (exit p r ∷ items) heap s h = h
-  adds-other_values (return p post ∷ items) heap s h = h
-  adds-other_values (end p ∷ items) heap s h = h
+  adds-other_values (item ∷ items) heap s h = h
 
   pub goal-other_values : (goal : Goal) (e : Var → Option Value) (free taken : Heap) → AllInGoal Same goal
       → HoldsIn w goal e free taken → HoldsIn v goal e free taken

@@ -170,14 +170,7 @@ module _ (n : ℕ) (w v : ℕ → Value) (to : Term → Term)
   adds-restated [] heap b h = h
   adds-restated (add p given ∷ items) heap b h =
       star-map (λ part d. (pending-restated given part b.0).1 d) (λ part d. adds-restated items part b.1 d) h
-  adds-restated (run c ∷ items) heap b h = h
-  adds-restated (take p want names ∷ items) heap b h = h
-  adds-restated (gave p set removed ∷ items) heap b h = h
-  adds-restated (head p test invariant body ∷ items) heap b h = h
-  adds-restated (again p invariant ∷ items) heap b h = h
-  adds-restated (exit p r ∷ items) heap b h = h
-  adds-restated (return p post ∷ items) heap b h = h
-  adds-restated (end p ∷ items) heap b h = h
+  adds-restated (item ∷ items) heap b h = h
 
 -- variables are to get terms of the same values
 pub restated_terms_are_set : RestatedTermsAreSet
