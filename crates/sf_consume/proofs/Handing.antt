@@ -16,7 +16,7 @@ use Rattle.sf_core.specs.declared.assertion.Operand.TheVariants.{Known, Exists}
 use Rattle.sf_core.specs.Program.Syntax.{Conjunct, segment, Conjuncts, none, also}
 use Rattle.sf_consume.proofs.WantedFirst.{list-is}
 use Rattle.sf_consume.specs.declared.wanted.WantedList.{WantedList}
-use Rattle.sf_consume.specs.Checked.Laws.{alone, Subtracts, KeepsWants}
+use Rattle.sf_consume.specs.Checked.Laws.{alone, HandsOver, Subtracts, KeepsWants}
 use Rattle.sf_consume.specs.Subtract.{Step, Want, both, first_by, removed, wanted_list}
 use Rattle.sf_consume.specs.Wants.{IsFormed, Wants}
 use Rattle.sf_sym.specs.Checked.Lemmas.AtomLists.{atoms-one_more, atoms-out, without-all}
@@ -187,6 +187,26 @@ pub state-joins : (w : ℕ → Value) (s : State) (e : Var → Option Value) (fr
     (o : Out w s e free taken a x) → Splits (union o.part taken) taken o.part
 state-joins w s e free taken a x o =
     splits-comm (splits-assoc_right (splits-comm o.splits) (splits-union o.apart)).0
+
+-- the atom is handed over as it is, where whatever is still wanted then was wanted with its part before
+pub handed-whole : (w : ℕ → Value) (s : State) (e : Var → Option Value) (free taken : Heap) (a : ℕ) (x : Atom)
+    (bindings : List (Option Term)) (cs left : Conjuncts Term)
+    → AllInState (IsBelow s.next_sym) s → (o : Out w s e free taken a x)
+    →
+    ((some : ℕ → Value) (more whole : Heap) → Splits whole o.part more
+    → Wants w some (removed (handed s a x) bindings left) more → Wants w some (removed s bindings cs) whole)
+    → HandsOver w (removed s bindings cs) (removed (handed s a x) bindings left) e free taken
+handed-whole w s e free taken a x bindings cs left below o wants = record {
+  part = o.part;
+  rest = o.rest;
+  gone = union o.part taken;
+  splits = o.splits;
+  joins = state-joins w s e free taken a x o;
+  values = w;
+  same = λ m i. refl;
+  holds = state-handed w w s e free taken a s.next_sym x x below (λ m i. refl) o o.atom;
+  wants = wants;
+}
 
 -- the state speaks of symbols below a larger number still
 pub state-below : (n a : ℕ) (s : State) (y : Atom) → s.next_sym ≤ n → AllInState (IsBelow s.next_sym) s

@@ -19,7 +19,7 @@ use Rattle.sf_core.specs.Assertions.Sat.{SatOne, Seg, Tree as IsTree, operand}
 use Rattle.sf_core.specs.declared.fields.Links.{Links}
 use Rattle.sf_core.specs.Program.Syntax.{Conjunct, holds, points, segment, doubly, tree, choose, Conjuncts, also}
 use Rattle.sf_consume.proofs.DoubleTerms.{double-sat, four-are}
-use Rattle.sf_consume.proofs.Handing.{Out, both-are, by_first, by_list, formed-rest, state-below, state-handed, state-joins, state-out, wanting_first}
+use Rattle.sf_consume.proofs.Handing.{Out, both-are, by_first, by_list, formed-rest, handed-whole, state-below, state-out, wanting_first}
 use Rattle.sf_consume.specs.declared.wanted.WantedList.{WantedList}
 use Rattle.sf_consume.specs.Checked.Laws.{alone, Subtracts, KeepsWants, ExactKeepsWants}
 use Rattle.sf_consume.specs.Subtract.{Want, both, exact_step, exact_there, four, is_same_shape, join_there, joined, list_from, list_join_step, removed, wanted_shape}
@@ -124,23 +124,12 @@ exact-one a s bindings c cs x formed shape at = record {
   links = refl;
   hands = λ w e free taken h.
       let o = state-out w s e free taken a x at h in
-      record {
-        part = o.part;
-        rest = o.rest;
-        gone = union o.part taken;
-        splits = o.splits;
-        joins = state-joins w s e free taken a x o;
-        values = w;
-        same = λ m i. refl;
-        holds = state-handed w w s e free taken a s.next_sym x x formed.state (λ m i. refl) o o.atom;
-        wants = λ some more whole splits d. record {
-          bound = d.bound;
-          satisfied = star-of splits
-              (shape-holds s.links (length bindings) bindings c x o.part formed.conjuncts.0 shape w some d.bound
-              o.atom)
-              d.satisfied;
-        };
-      };
+      handed-whole w s e free taken a x bindings (also c cs) cs formed.state o (λ some more whole splits d. record {
+        bound = d.bound;
+        satisfied = star-of splits
+            (shape-holds s.links (length bindings) bindings c x o.part formed.conjuncts.0 shape w some d.bound o.atom)
+            d.satisfied;
+      });
 }
 
 pub exact_keeps_wants : ExactKeepsWants
@@ -227,29 +216,19 @@ join-one a s bindings k cs t u m formed from to at known =
           let o = state-out w s e free taken a (Ls t m) at h in
           let first : Seg k.next (term_value w m) (term_value w t) o.part =
           subst (λ z. SegAlong z (term_value w t) (term_value w m) o.part) formed.conjuncts.0.0 o.atom in
-          record {
-            part = o.part;
-            rest = o.rest;
-            gone = union o.part taken;
-            splits = o.splits;
-            joins = state-joins w s e free taken a (Ls t m) o;
-            values = w;
-            same = λ n i. refl;
-            holds = state-handed w w s e free taken a s.next_sym (Ls t m) (Ls t m) formed.state (λ n i. refl) o
-                o.atom;
-            wants = λ some more whole splits want. record {
-              bound = want.bound;
-              satisfied = star-map_left
-                  (λ (heap : Heap) (z : ((λ part. Seg k.next (term_value w m) (term_value w t) part
-                  × ((location : ℕ) → term_value w u ≡ loc location → part location ≡ None))
-                  ⋆ Seg k.next (term_value w u) (term_value w m)) heap).
-                  subst₂ (λ y x. Seg k.next y x heap) (sym (operand-is w some bindings k.to u want.bound to))
-                  (sym (operand-is w some bindings k.from t want.bound from))
-                  (seg-append z.first.1 z.splits z.first.0 z.second))
-                  (star-assoc_left (star-of splits (first, end-elsewhere w s e free taken a (Ls t m) u o at known)
-                  want.satisfied));
-            };
-          };
+          handed-whole w s e free taken a (Ls t m) bindings (also c cs) (also (list_from k m u) cs) formed.state o
+          (λ some more whole splits want. record {
+            bound = want.bound;
+            satisfied = star-map_left
+                (λ (heap : Heap) (z : ((λ part. Seg k.next (term_value w m) (term_value w t) part
+                × ((location : ℕ) → term_value w u ≡ loc location → part location ≡ None))
+                ⋆ Seg k.next (term_value w u) (term_value w m)) heap).
+                subst₂ (λ y x. Seg k.next y x heap) (sym (operand-is w some bindings k.to u want.bound to))
+                (sym (operand-is w some bindings k.from t want.bound from))
+                (seg-append z.first.1 z.splits z.first.0 z.second))
+                (star-assoc_left (star-of splits (first, end-elsewhere w s e free taken a (Ls t m) u o at known)
+                want.satisfied));
+          });
     }
 
 -- the atom is a segment from there

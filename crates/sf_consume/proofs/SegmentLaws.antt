@@ -5,7 +5,6 @@ use Rattle.std.proofs.Common.{◌≡◌, ◌≢◌, ℕ, Bool, true, false, ◌&
 use Rattle.std.proofs.lemmas.Option.{cond_some, option_and_then_some}
 use Rattle.sf_base.proofs.Bools.{and-left, and-right}
 use Rattle.sf_base.proofs.HeapSplits.{star-assoc_left, star-map_left, star-of}
-use Rattle.sf_base.proofs.MapSplits.{union}
 use Rattle.sf_base.proofs.Options.{option_map-some}
 use Rattle.sf_base.specs.declared.ids.FieldId.{FieldId}
 use Rattle.sf_base.specs.declared.value.Value.TheVariants.{Loc as loc}
@@ -17,7 +16,7 @@ use Rattle.sf_consume.proofs.CellLaws.{cell-below, cell-handed, list_head_keeps_
 use Rattle.sf_consume.proofs.DoubleTerms.{HasFour, by_double, double, double-sat}
 use Rattle.sf_consume.proofs.Either.{either-keeps}
 use Rattle.sf_consume.proofs.Fitting.{known-is, link-is}
-use Rattle.sf_consume.proofs.Handing.{state-below, state-handed, state-joins, state-out, wanting_first}
+use Rattle.sf_consume.proofs.Handing.{handed-whole, state-below, state-out, wanting_first}
 use Rattle.sf_consume.proofs.PartLaws.{end-elsewhere, list_join_keeps_wants}
 use Rattle.sf_consume.specs.declared.wanted.WantedDouble.{WantedDouble}
 use Rattle.sf_consume.specs.Checked.Laws.{alone, Subtracts, KeepsWants, HeadKeepsWants, JoinKeepsWants}
@@ -191,28 +190,19 @@ double-join_one a s bindings k cs d m n formed four at known =
           let first : Dseg k.next k.back (term_value w m) (term_value w n) (term_value w d.1) (term_value w d.0) o.part =
           subst₂ (λ y z. DsegAlong y z (term_value w d.0) (term_value w d.1) (term_value w m) (term_value w n) o.part)
           formed.conjuncts.0.0 formed.conjuncts.0.1 o.atom in
-          record {
-            part = o.part;
-            rest = o.rest;
-            gone = union o.part taken;
-            splits = o.splits;
-            joins = state-joins w s e free taken a x o;
-            values = w;
-            same = λ m i. refl;
-            holds = state-handed w w s e free taken a next x x formed.state (λ m i. refl) o o.atom;
-            wants = λ some more whole splits want. record {
-              bound = want.bound;
-              satisfied = star-map_left
-                  (λ (heap : Heap) (z : ((λ part.
-                  Dseg k.next k.back (term_value w m) (term_value w n) (term_value w d.1) (term_value w d.0) part
-                  × ((location : ℕ) → term_value w d.3 ≡ loc location → part location ≡ None))
-                  ⋆ Dseg k.next k.back (term_value w d.2) (term_value w d.3) (term_value w m) (term_value w n)) heap).
-                  double-sat w some bindings k.place k.next k.back k.from k.before k.last k.to d heap want.bound four
-                  (dseg-append z.first.1 z.splits z.first.0 z.second))
-                  (star-assoc_left (star-of splits (first, end-elsewhere w s e free taken a x d.3 o at known)
-                  want.satisfied));
-            };
-          };
+          handed-whole w s e free taken a x bindings (also (double k) cs) (also (double_from k n m d.2 d.3) cs)
+          formed.state o (λ some more whole splits want. record {
+            bound = want.bound;
+            satisfied = star-map_left
+                (λ (heap : Heap) (z : ((λ part.
+                Dseg k.next k.back (term_value w m) (term_value w n) (term_value w d.1) (term_value w d.0) part
+                × ((location : ℕ) → term_value w d.3 ≡ loc location → part location ≡ None))
+                ⋆ Dseg k.next k.back (term_value w d.2) (term_value w d.3) (term_value w m) (term_value w n)) heap).
+                double-sat w some bindings k.place k.next k.back k.from k.before k.last k.to d heap want.bound four
+                (dseg-append z.first.1 z.splits z.first.0 z.second))
+                (star-assoc_left (star-of splits (first, end-elsewhere w s e free taken a x d.3 o at known)
+                want.satisfied));
+          });
     }
 
 -- the atom is a doubly linked segment from there

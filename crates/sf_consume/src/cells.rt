@@ -8,6 +8,7 @@ ghost use Rattle.sf_sym.specs.Cells.{cell_at};
 ghost use Rattle.sf_sym.specs.Pending.{existentials_in, pending_of};
 
 use crate::doubles::double_head;
+use crate::fault::Tried;
 use crate::fit::{Fitting, fit_fields, link};
 use crate::wanted::{as_cell, as_list, as_tree, both, list_from, tree_from};
 use sf_base::FieldId;
@@ -17,12 +18,7 @@ use std::alloc::{AllocError, Global};
 
 /// cell: a wanted cell is that one, whose fields fit. `None` exactly where it isn't; an `Err` means
 /// out of memory. After either nothing has changed.
-pub(crate) fn cell(
-    alloc: Global,
-    state: &mut State,
-    want: &mut Pending,
-    a: u32,
-) -> Result<Option<()>, AllocError>
+pub(crate) fn cell(alloc: Global, state: &mut State, want: &mut Pending, a: u32) -> Tried
     requires { state.old.next_sym + new_symbols (pending_of want.old).conjuncts < 2 ^ 32 }
     ensures answers { IfOk result (AnswersBy (cell_step a) state.old state.new want.old want.new) }
     ensures err { OnErr result (state.new ≡ state.old) }
@@ -111,12 +107,7 @@ fn bind_all(want: &mut Pending, changes: &[(u32, Term)])
 /// head: a wanted segment whose ends differ begins with that cell. `None` exactly where it doesn't;
 /// an `Err` means out of memory. After either nothing has changed.
 #[tactic(auto, using(crate::proofs::Either::first_is, crate::proofs::Either::second_is))]
-pub(crate) fn head(
-    alloc: Global,
-    state: &mut State,
-    want: &mut Pending,
-    a: u32,
-) -> Result<Option<()>, AllocError>
+pub(crate) fn head(alloc: Global, state: &mut State, want: &mut Pending, a: u32) -> Tried
     requires { state.old.next_sym + 1 < 2 ^ 32 }
     ensures answers { IfOk result (AnswersBy (head_step a) state.old state.new want.old want.new) }
     ensures err { OnErr result (state.new ≡ state.old) }
@@ -129,12 +120,7 @@ pub(crate) fn head(
 }
 
 /// The same of a segment that isn't doubly linked.
-fn list_head(
-    alloc: Global,
-    state: &mut State,
-    want: &mut Pending,
-    a: u32,
-) -> Result<Option<()>, AllocError>
+fn list_head(alloc: Global, state: &mut State, want: &mut Pending, a: u32) -> Tried
     requires { state.old.next_sym + 1 < 2 ^ 32 }
     ensures answers { IfOk result
         (AnswersBy (list_head_step a) state.old state.new want.old want.new) }
@@ -164,12 +150,7 @@ fn list_head(
 
 /// node: a wanted tree begins with that cell. `None` exactly where it doesn't; an `Err` means out
 /// of memory. After either nothing has changed.
-pub(crate) fn node(
-    alloc: Global,
-    state: &mut State,
-    want: &mut Pending,
-    a: u32,
-) -> Result<Option<()>, AllocError>
+pub(crate) fn node(alloc: Global, state: &mut State, want: &mut Pending, a: u32) -> Tried
     requires { state.old.next_sym + 2 < 2 ^ 32 }
     ensures answers { IfOk result (AnswersBy (node_step a) state.old state.new want.old want.new) }
     ensures err { OnErr result (state.new ≡ state.old) }

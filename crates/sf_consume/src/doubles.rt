@@ -7,6 +7,7 @@ ghost use Rattle.sf_consume.specs.Subtract.{double_cell, double_head_step, doubl
 ghost use Rattle.sf_sym.specs.Cells.{cell_at};
 
 use crate::cells::first_fit;
+use crate::fault::Tried;
 use crate::fit::{Fitting, fit_known, link};
 use crate::wanted::{WantedDouble, as_double, double_from, four};
 use sf_sym::{Atom, Pending, State, Term};
@@ -15,12 +16,7 @@ use std::alloc::{AllocError, Global};
 /// head: a wanted doubly linked segment whose ends differ begins with that cell, which is known to
 /// lead back to what is to stand before it. `None` exactly where it doesn't; an `Err` means out of
 /// memory. After either nothing has changed.
-pub(crate) fn double_head(
-    alloc: Global,
-    state: &mut State,
-    want: &mut Pending,
-    a: u32,
-) -> Result<Option<()>, AllocError>
+pub(crate) fn double_head(alloc: Global, state: &mut State, want: &mut Pending, a: u32) -> Tried
     requires { state.old.next_sym + 1 < 2 ^ 32 }
     ensures answers { IfOk result
         (AnswersBy (double_head_step a) state.old state.new want.old want.new) }
@@ -76,11 +72,7 @@ fn double_cell(
 /// join: a wanted doubly linked segment begins with that one; its end is a constant or a cell of
 /// another atom. `None` exactly where it isn't so; an `Err` means out of memory. After either nothing
 /// has changed.
-pub(crate) fn double_join(
-    state: &mut State,
-    want: &mut Pending,
-    a: u32,
-) -> Result<Option<()>, AllocError>
+pub(crate) fn double_join(state: &mut State, want: &mut Pending, a: u32) -> Tried
     ensures answers { IfOk result
         (AnswersBy (double_join_step a) state.old state.new want.old want.new) }
     ensures err { OnErr result (state.new ≡ state.old) }

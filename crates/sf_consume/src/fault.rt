@@ -1,5 +1,8 @@
 use std::alloc::AllocError;
 
+/// What comes of a step: `None` exactly where it isn't there to be taken, an `Err` for want of memory.
+pub(crate) type Tried = Result<Option<()>, AllocError>;
+
 /// Why a tag leaves nothing of a subtraction.
 #[derive(Clone, Copy, Debug, PartialEq, Eq, Drop)]
 pub enum ConsumeFault {

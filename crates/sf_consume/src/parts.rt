@@ -5,13 +5,13 @@ ghost use Rattle.sf_consume.specs.Checked.Fits.{AnswersBy};
 ghost use Rattle.sf_consume.specs.Subtract.{exact_step, is_same_shape, join_step, joined, list_join_step, stepped};
 
 use crate::doubles::double_join;
+use crate::fault::Tried;
 use crate::wanted::{as_list, both, list_from, wanted_shape};
 use sf_sym::{Atom, Pending, State, Term};
-use std::alloc::AllocError;
 
 /// exact: a wanted segment or tree is that atom. `None` exactly where it isn't; an `Err` means out
 /// of memory. After either nothing has changed.
-pub(crate) fn exact(state: &mut State, want: &mut Pending, a: u32) -> Result<Option<()>, AllocError>
+pub(crate) fn exact(state: &mut State, want: &mut Pending, a: u32) -> Tried
     ensures answers { IfOk result (AnswersBy (exact_step a) state.old state.new want.old want.new) }
     ensures err { OnErr result (state.new ≡ state.old) }
     ensures err_want { OnErr result (want.new ≡ want.old) }
@@ -51,7 +51,7 @@ pub fn is_same_shape(x: &Atom, y: &Atom) -> bool
 /// atom. `None` exactly where it isn't so; an `Err` means out of memory. After either nothing has
 /// changed.
 #[tactic(auto, using(crate::proofs::Either::first_is, crate::proofs::Either::second_is))]
-pub(crate) fn join(state: &mut State, want: &mut Pending, a: u32) -> Result<Option<()>, AllocError>
+pub(crate) fn join(state: &mut State, want: &mut Pending, a: u32) -> Tried
     ensures answers { IfOk result (AnswersBy (join_step a) state.old state.new want.old want.new) }
     ensures err { OnErr result (state.new ≡ state.old) }
     ensures err_want { OnErr result (want.new ≡ want.old) }
@@ -63,7 +63,7 @@ pub(crate) fn join(state: &mut State, want: &mut Pending, a: u32) -> Result<Opti
 }
 
 /// The same of a segment that isn't doubly linked.
-fn list_join(state: &mut State, want: &mut Pending, a: u32) -> Result<Option<()>, AllocError>
+fn list_join(state: &mut State, want: &mut Pending, a: u32) -> Tried
     ensures answers { IfOk result
         (AnswersBy (list_join_step a) state.old state.new want.old want.new) }
     ensures err { OnErr result (state.new ≡ state.old) }

@@ -38,6 +38,20 @@ use Rattle.sf_sym.specs.HoldsIn.{HoldsIn}
 use Rattle.sf_sym.specs.Checked.Laws.{HoldsAsBefore, IsLocationIn}
 use Rattle.sf_sym.specs.Tests.{allocated, allocates, is_constant, is_left_out, parts, root, same_term}
 
+-- the ends of what has a cell at its first one, unless they are the same
+forced-ends : (w : ℕ → Value) (t u : Term) (elsewhere : Bool) (both : Term × Term) (heap : Heap)
+    → (term_value w t ≢ term_value w u → IsLocationIn heap (term_value w t))
+    → cond (not (same_term t u) && elsewhere) (Some (t, u)) None ≡ Some both
+    → (elsewhere ≡ true → IsLocationIn heap (term_value w t) → ⊥) → term_value w both.0 ≡ term_value w both.1
+forced-ends w t u elsewhere both heap located e none =
+    let (so, is) = cond_some (not (same_term t u) && elsewhere) (t, u) both e in
+    subst (λ z. term_value w z.0 ≡ term_value w z.1) is (go (value-which (term_value w t) (term_value w u)) so)
+  where
+    go : (term_value w t ≡ term_value w u) ⊎ (term_value w t ≢ term_value w u)
+        → not (same_term t u) && elsewhere ≡ true → term_value w t ≡ term_value w u
+    go (inl same) i = same
+    go (inr n) i = absurd (none (and-right (not (same_term t u)) elsewhere i) (located n))
+
 -- two terms that are forced have one value, where the atom has no cell at its root if that is elsewhere
 pub forced-value : (w : ℕ → Value) (links : Links) (x : Atom) (elsewhere : Bool) (both : Term × Term) (heap : Heap)
     → forced_by elsewhere x ≡ Some both → AtomHolds w links x heap
@@ -45,25 +59,10 @@ pub forced-value : (w : ℕ → Value) (links : Links) (x : Atom) (elsewhere : B
     → term_value w both.0 ≡ term_value w both.1
 forced-value w links (Points t fields) elsewhere both heap e s none = absurd (cc)
 forced-value w links (Ls t u) elsewhere both heap e s none =
-    let (so, is) = cond_some (not (same_term t u) && elsewhere) (t, u) both e in
-    subst (λ z. term_value w z.0 ≡ term_value w z.1) is (go (value-which (term_value w t) (term_value w u)) so)
-  where
-    go : (term_value w t ≡ term_value w u) ⊎ (term_value w t ≢ term_value w u)
-        → not (same_term t u) && elsewhere ≡ true → term_value w t ≡ term_value w u
-    go (inl same) i = same
-    go (inr n) i =
-        absurd (none (and-right (not (same_term t u)) elsewhere i)
-        (seg_along-located links.tl (term_value w t) (term_value w u) heap n s))
+    forced-ends w t u elsewhere both heap (λ n. seg_along-located links.tl (term_value w t) (term_value w u) heap n s)
+    e none
 forced-value w links (Tree t) elsewhere both heap e s none =
-    let (so, is) = cond_some (not (same_term t Nil) && elsewhere) (t, Nil) both e in
-    subst (λ z. term_value w z.0 ≡ term_value w z.1) is (go (value-which (term_value w t) (term_value w Nil)) so)
-  where
-    go : (term_value w t ≡ term_value w Nil) ⊎ (term_value w t ≢ term_value w Nil)
-        → not (same_term t Nil) && elsewhere ≡ true → term_value w t ≡ term_value w Nil
-    go (inl same) i = same
-    go (inr n) i =
-        absurd (none (and-right (not (same_term t Nil)) elsewhere i)
-        (tree_along-located links.l links.r (term_value w t) heap n s))
+    forced-ends w t Nil elsewhere both heap (λ n. tree_along-located links.l links.r (term_value w t) heap n s) e none
 forced-value w links (Dll v p l u) elsewhere both heap e s none =
     go (same_term v u) refl (same_term p l) elsewhere e none
   where

@@ -3,7 +3,6 @@
 ghost use Rattle.std.specs.Prelude.{◌≡◌, ◌+◌, ◌<◌, ◌^◌, IfOk, Some};
 ghost use Rattle.std.specs.Option.{option_map};
 ghost use Rattle.sf_core.specs.Program.Syntax.{holds, points};
-ghost use Rattle.sf_core.specs.declared.assertion.Test.TheVariants.{Differ, Equal};
 ghost use Rattle.sf_produce.specs.Add.{add_first, added, added_double, added_segment, added_tree, goal_after, operands};
 ghost use Rattle.sf_sym.specs.Goal.{goal_of};
 ghost use Rattle.sf_sym.specs.Pending.{existentials_in, one_if_existential, pending_of};
@@ -33,9 +32,7 @@ pub fn produce<'a>(
         return Ok(None);
     };
     match c {
-        Conjunct::Holds(_, Test::True) => Ok(Some(goal_after(goal, place, given)?)),
-        Conjunct::Holds(_, Test::Equal(x, y)) => Ok(Some(equal(goal, place, given, x, y)?)),
-        Conjunct::Holds(_, Test::Differ(x, y)) => Ok(Some(differ(goal, place, given, x, y)?)),
+        Conjunct::Holds(_, test) => Ok(Some(tested(goal, place, given, test)?)),
         Conjunct::Points(_, root, fields) => {
             Ok(Some(cell(alloc, goal, place, given, root, fields.as_slice())?))
         }
@@ -59,40 +56,32 @@ fn goal_after<'a>(goal: Goal<'a>, place: Place, given: Pending) -> Result<Goal<'
     Ok(Goal { state, todo })
 }
 
-/// An equality is assumed.
-fn equal<'a>(
+/// A test is assumed.
+fn tested<'a>(
     mut goal: Goal<'a>,
     place: Place,
     mut given: Pending,
-    x: Operand<Term>,
-    y: Operand<Term>,
+    test: Test<Operand<Term>>,
 ) -> Result<Goal<'a>, AllocError>
     requires { goal.state.next_sym + OPERANDS < 2 ^ 32 }
     ensures { IfOk result (λ g. Some (goal_of g) ≡ added goal.entry.state place given.bindings
-        (holds place (Equal x y)) (pending_of given).conjuncts (goal_of goal.entry).todo) }
+        (holds place test) (pending_of given).conjuncts (goal_of goal.entry).todo) }
 {
-    let (t, u) = met_both(&mut goal.state, &mut given, x, y);
-    let mut goal = goal_after(goal, place, given)?;
-    goal.assume_equal(t, u)?;
-    Ok(goal)
-}
-
-/// An inequality is assumed.
-fn differ<'a>(
-    mut goal: Goal<'a>,
-    place: Place,
-    mut given: Pending,
-    x: Operand<Term>,
-    y: Operand<Term>,
-) -> Result<Goal<'a>, AllocError>
-    requires { goal.state.next_sym + OPERANDS < 2 ^ 32 }
-    ensures { IfOk result (λ g. Some (goal_of g) ≡ added goal.entry.state place given.bindings
-        (holds place (Differ x y)) (pending_of given).conjuncts (goal_of goal.entry).todo) }
-{
-    let (t, u) = met_both(&mut goal.state, &mut given, x, y);
-    let mut goal = goal_after(goal, place, given)?;
-    goal.assume_apart(t, u)?;
-    Ok(goal)
+    match test {
+        Test::True => goal_after(goal, place, given),
+        Test::Equal(x, y) => {
+            let (t, u) = met_both(&mut goal.state, &mut given, x, y);
+            let mut goal = goal_after(goal, place, given)?;
+            goal.assume_equal(t, u)?;
+            Ok(goal)
+        }
+        Test::Differ(x, y) => {
+            let (t, u) = met_both(&mut goal.state, &mut given, x, y);
+            let mut goal = goal_after(goal, place, given)?;
+            goal.assume_apart(t, u)?;
+            Ok(goal)
+        }
+    }
 }
 
 /// A cell is assumed.

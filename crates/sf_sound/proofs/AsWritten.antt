@@ -83,19 +83,11 @@ exit-same f g h (end p ∷ rest) = refl
 module _ (d : Setting) (kept : IsAsWritten d) where
   -- the rows that ask for annotations
   call-same : (s : State) (c : Command) (rest : List Item) → call_row d s c rest ≡ call_row (as_written d) s c rest
-  call-same s (assign p x e) rest = refl
-  call-same s (look_up p x e f) rest = refl
-  call-same s (mutate p e f v) rest = refl
-  call-same s (new p x) rest = refl
-  call-same s (dispose p e) rest = refl
-  call-same s (if p test this that) rest = refl
-  call-same s (while p test invariant body) rest = refl
   call-same s (call p c) rest =
       and_then-same (called d s p c rest) (called (as_written d) s p c rest)
       (slice_get d.program.procedures c.callee.0) (λ g e.
       let k = kept.procedures c.callee.0 g e in ap₂ (λ a b. called_with d.sets s p c a b rest) k.0 k.1)
-  call-same s (fork p c e) rest = refl
-  call-same s (with p r test body) rest = refl
+  call-same s c rest = refl
 
   two-same : (s : State) (p : Place) (c e : Call) (rest : List Item) (g h : Procedure)
       → slice_get d.program.procedures c.callee.0 ≡ Some g → slice_get d.program.procedures e.callee.0 ≡ Some h
@@ -107,14 +99,6 @@ module _ (d : Setting) (kept : IsAsWritten d) where
       ∙ ap₂ (λ a b. forked_with d.sets s p c e g.pre g.post a b rest) l.0 l.1
 
   fork-same : (s : State) (c : Command) (rest : List Item) → fork_row d s c rest ≡ fork_row (as_written d) s c rest
-  fork-same s (assign p x e) rest = refl
-  fork-same s (look_up p x e f) rest = refl
-  fork-same s (mutate p e f v) rest = refl
-  fork-same s (new p x) rest = refl
-  fork-same s (dispose p e) rest = refl
-  fork-same s (if p test this that) rest = refl
-  fork-same s (while p test invariant body) rest = refl
-  fork-same s (call p c) rest = refl
   fork-same s (fork p c e) rest =
       and_then-same
       (λ g. option_and_then (forked d s p c e rest g) (slice_get d.program.procedures e.callee.0))
@@ -122,23 +106,15 @@ module _ (d : Setting) (kept : IsAsWritten d) where
       (slice_get d.program.procedures c.callee.0) (λ g i.
       and_then-same (forked d s p c e rest g) (forked (as_written d) s p c e rest g)
       (slice_get d.program.procedures e.callee.0) (λ h j. two-same s p c e rest g h i j))
-  fork-same s (with p r test body) rest = refl
+  fork-same s c rest = refl
 
   enter-same : (s : State) (c : Command) (rest : List Item) → enter_row d s c rest ≡ enter_row (as_written d) s c rest
-  enter-same s (assign p x e) rest = refl
-  enter-same s (look_up p x e f) rest = refl
-  enter-same s (mutate p e f v) rest = refl
-  enter-same s (new p x) rest = refl
-  enter-same s (dispose p e) rest = refl
-  enter-same s (if p test this that) rest = refl
-  enter-same s (while p test invariant body) rest = refl
-  enter-same s (call p c) rest = refl
-  enter-same s (fork p c e) rest = refl
   enter-same s (with p r test body) rest =
       and_then-same (entered d s p r test body rest) (entered (as_written d) s p r test body rest)
       (slice_get d.program.resources r.0) (λ of e.
       ap (λ a. entered_with s p (variables_from r 0 of.variables) a test (to_run body ++ (exit p r ∷ rest)))
       (kept.resources r.0 of e))
+  enter-same s c rest = refl
 
   leave-same : (s : State) (p : Place) (r : ResId) (rest : List Item)
       → exit_row d s p r rest ≡ exit_row (as_written d) s p r rest

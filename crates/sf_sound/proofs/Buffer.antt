@@ -40,7 +40,7 @@ use Rattle.sf_precise.specs.Checked.Laws.{OrderingExists}
 use Rattle.sf_precise.specs.Order.{IsOrderOf, IsOrdering}
 use Rattle.sf_sound.proofs.AsWritten.{IsAsWritten, procedure-proved}
 use Rattle.sf_sound.proofs.SmallPrograms.{cell-determined, cell-no_shared, cell-ordered, cell-within, emp-determined, emp-no_var, emp-ordered, emp-within, everywhere, of-three, set-nothing, set-of_each, set-single, none-twice, small-within}
-use Rattle.sf_sound.proofs.Races.{sound-by}
+use Rattle.sf_sound.proofs.Races.{example-is-sound}
 use Rattle.sf_sound.specs.Checked.ExamplesOfRegions.{BufferIsSound, buf, buffer, buffer_tags, buffered, c, full, get, gets_y, no_scope, passes_on, put, puts_x}
 use Rattle.sf_sound.specs.Proofs.{ProofsAreSound}
 use Rattle.sf_rules.specs.Proving.{Proves}
@@ -436,15 +436,5 @@ module _ (in_order : Assertion → Assertion) (ordering : IsOrdering in_order) w
   is-own = record { program = refl; sets = are-sets; ordering = ordering }
 
 pub buffer_is_sound : ProofsAreSound → OrderingExists → BufferIsSound
-unfolding OrderingExists
-buffer_is_sound law (in_order, ordering, good) = record {
-  formed = formed;
-  conditions = conditions;
-  determined = determined;
-  setting = own_setting in_order ordering;
-  own_setting = is-own in_order ordering;
-  proves = proves in_order ordering;
-  sound =
-      sound-by law buffer formed conditions determined (own_setting in_order ordering) buffer_tags
-      (is-own in_order ordering) (proves in_order ordering);
-}
+buffer_is_sound law exists =
+    example-is-sound law exists buffer buffer_tags formed conditions determined own_setting is-own proves

@@ -13,7 +13,7 @@ use Rattle.sf_base.specs.declared.ids.Var.{Var}
 use Rattle.sf_base.specs.declared.place.Place.{Place}
 use Rattle.sf_base.specs.declared.value.Value.{Value}
 use Rattle.sf_base.specs.declared.value.Value.TheVariants.{Nil as nil}
-use Rattle.sf_base.specs.HeapStore.{Apart, Heap, Map, Splits}
+use Rattle.sf_base.specs.HeapStore.{Apart, Heap, Map, Splits, ◌⋆◌}
 use Rattle.sf_calls.specs.Assigned.{MayChange}
 use Rattle.sf_calls.specs.Changes.{changed as changed_by}
 use Rattle.sf_core.specs.Machine.Step.{procedure_at}
@@ -178,16 +178,8 @@ module _ (d : Setting) (s : State) (q : Place) (c e : Call) (rest : List Item) w
 
     module _ (claim : Claim d (forking g h)) (n : ℕ) (l : Local) (taken : Heap) (has : HasDomain D l) where
       -- with some values of the symbols: two parts are shown, and the rest is done without them
-      record Shown (v : ℕ → Value) : Type 0 where
-        left : Heap
-        right : Heap
-        others : Heap
-        kept : Heap
-        splits : Splits l.cells left others
-        further : Splits others right kept
-        first : PendingHolds v pre left
-        second : PendingHolds v other_pre right
-        does : Left n v (with_cells kept l)
+      abbrev Shown : (v : ℕ → Value) → Type 0
+      Shown v = (PendingHolds v pre ⋆ (PendingHolds v other_pre ⋆ (λ kept. Left n v (with_cells kept l)))) l.cells
 
       shown : (v : ℕ → Value) → HoldsIn v (before_command s (fork q c e) rest) l.values l.cells taken → Shown v
       shown v k =
@@ -201,17 +193,7 @@ module _ (d : Setting) (s : State) (q : Place) (c e : Call) (rest : List Item) w
           })) in
           let o = taking-does d.program n v e.place other_pre other_names (gave q set [] ∷ behind g h)
           (with_cells m.right l) m.second in
-          record {
-            left = m.left;
-            right = o.left;
-            others = m.right;
-            kept = o.right;
-            splits = m.splits;
-            further = o.splits;
-            first = m.first;
-            second = o.first;
-            does = o.second;
-          }
+          record { left = m.left; right = m.right; splits = m.splits; first = m.first; second = o }
 
       abbrev either : Var → Bool
       either x = is_lent d c x || is_lent d e x
@@ -224,7 +206,7 @@ module _ (d : Setting) (s : State) (q : Place) (c e : Call) (rest : List Item) w
         now = shown w k
 
         abbrev kept : Local
-        kept = record { values = changed either None l.values; cells = now.kept; tokens = l.tokens }
+        kept = record { values = changed either None l.values; cells = now.second.right; tokens = l.tokens }
 
         goes_on : (back_one back_two back after : Local)
             → ComesBack d.program c g (arguments_in l c) back_one
@@ -236,19 +218,20 @@ module _ (d : Setting) (s : State) (q : Place) (c e : Call) (rest : List Item) w
             (fresh-same s.next_sym (xs ++ ys) (value_in back) w) k in
             let then = shown v kv in
             let same_left : then.left ≡ now.left =
-            one.pre.precise (callee_value (value_in l) c (arguments_in l c)) l.cells then.left now.left then.others
-            now.others then.splits now.splits (lent-pre d D c one s t v l has kv.vars then.left then.first)
+            one.pre.precise (callee_value (value_in l) c (arguments_in l c)) l.cells then.left now.left then.right
+            now.right then.splits now.splits (lent-pre d D c one s t v l has kv.vars then.left then.first)
             (lent-pre d D c one s t w l has k.vars now.left now.first) in
-            let same_others : then.others ≡ now.others =
-            splits-cancel_left (subst (λ z. Splits l.cells z then.others) same_left then.splits) now.splits in
-            let further : Splits now.others then.right then.kept =
-            subst (λ z. Splits z then.right then.kept) same_others then.further in
-            let same_right : then.right ≡ now.right =
-            two.pre.precise (callee_value (value_in l) e (arguments_in l e)) now.others then.right now.right then.kept
-            now.kept further now.further (lent-pre d D e two s t v l has kv.vars then.right then.second)
-            (lent-pre d D e two s t w l has k.vars now.right now.second) in
-            let same_kept : then.kept ≡ now.kept =
-            splits-cancel_left (subst (λ z. Splits now.others z then.kept) same_right further) now.further in
+            let same_others : then.right ≡ now.right =
+            splits-cancel_left (subst (λ z. Splits l.cells z then.right) same_left then.splits) now.splits in
+            let further : Splits now.right then.second.left then.second.right =
+            subst (λ z. Splits z then.second.left then.second.right) same_others then.second.splits in
+            let same_right : then.second.left ≡ now.second.left =
+            two.pre.precise (callee_value (value_in l) e (arguments_in l e)) now.right then.second.left now.second.left
+            then.second.right now.second.right further now.second.splits
+            (lent-pre d D e two s t v l has kv.vars then.second.left then.second.first)
+            (lent-pre d D e two s t w l has k.vars now.second.left now.second.first) in
+            let same_kept : then.second.right ≡ now.second.right =
+            splits-cancel_left (subst (λ z. Splits now.right z then.second.right) same_right further) now.second.splits in
             let values = subst (λ ss. AllByRecursion (λ (x : Var × Term). term_value v x.1 ≡ value_in back x.0) ss)
             (sym set-is) (fresh-values s.next_sym (xs ++ ys) (value_in back) w) in
             let P : Var × Term → Type 0 = λ x. term_value v x.1 ≡ value_in back x.0 in
@@ -271,7 +254,7 @@ module _ (d : Setting) (s : State) (q : Place) (c e : Call) (rest : List Item) w
             (fresh-listed (s.next_sym + length first) ys x ((two.lends x).1 m))
             ∙ ap (λ z. unwrap_or z nil) (splits-has_right x x_has.0 both.values x_has.1 ∙ sym x_has.1))
             (known e.values two.reads) in
-            let does = then.does back.cells after.cells
+            let does = then.second.second back.cells after.cells
             (adding-holds v q post (to_add q (term_after s second e) (d.ordered h.post) ++ rest) back.cells
             (star-of both.cells
             (usable-assumed d (IsPassed d c.callee g) g.post one.post v (term_after s first c)
@@ -281,10 +264,10 @@ module _ (d : Setting) (s : State) (q : Place) (c e : Call) (rest : List Item) w
             (usable-assumed d (IsPassed d e.callee h) h.post two.post v (term_after s second e)
             (callee_value (value_in back_two) e (arguments_in l e)) back_two.cells after_two o.post)))))
             (subst (λ z. Splits after.cells back.cells z) (sym same_kept) parts.cells) in
-            let frame : Local = with_cells after.cells (put_values v set (with_cells then.kept l)) in
+            let frame : Local = with_cells after.cells (put_values v set (with_cells then.second.right l)) in
             let frame_is : frame ≡ after =
-            ap (λ ss. with_cells after.cells (put_values v ss (with_cells then.kept l))) set-is
-            ∙ returned s.next_sym (xs ++ ys) w l back kept after then.kept parts there others refl
+            ap (λ ss. with_cells after.cells (put_values v ss (with_cells then.second.right l))) set-is
+            ∙ returned s.next_sym (xs ++ ys) w l back kept after then.second.right parts there others refl
             (λ r. splits-lacks_whole r both.tokens (b.outside r) (o.outside r)) in
             subst (λ z. LocalSafe d.program n (Owed rest) (steps rest) z) frame_is
             (body-does d.program n v rest frame form
@@ -326,13 +309,13 @@ module _ (d : Setting) (s : State) (q : Place) (c e : Call) (rest : List Item) w
 
         forks : LocalForks d.program l c e g h (LocalSafe d.program n (Owed rest) (steps rest))
         forks =
-            let cells = splits-assoc_left now.further now.splits in
+            let cells = splits-assoc_left now.second.splits now.splits in
             record {
               fits_left = one.fits;
               fits_right = two.fits;
-              lent = record { values = only either l.values; cells = union now.left now.right; tokens = empty_map };
+              lent = record { values = only either l.values; cells = union now.left now.second.left; tokens = empty_map };
               left = lent_part d D c one l now.left;
-              right = lent_part d D e two l now.right;
+              right = lent_part d D e two l now.second.left;
               kept = kept;
               parts = record {
                 values = splits-by_test either l.values;
@@ -346,8 +329,8 @@ module _ (d : Setting) (s : State) (q : Place) (c e : Call) (rest : List Item) w
               };
               lends_left = lent-lends d D c one l now.left has
                   (lent-pre d D c one s t w l has k.vars now.left now.first);
-              lends_right = lent-lends d D e two l now.right has
-                  (lent-pre d D e two s t w l has k.vars now.right now.second);
+              lends_right = lent-lends d D e two l now.second.left has
+                  (lent-pre d D e two s t w l has k.vars now.second.left now.second.first);
               goes_on = goes_on;
             }
 

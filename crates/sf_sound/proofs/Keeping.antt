@@ -21,7 +21,7 @@ use Rattle.sf_calls.specs.Assigned.{MayChange}
 use Rattle.sf_core.specs.Machine.Config.{Item, command, items, leave}
 use Rattle.sf_core.specs.Program.Formed.{IsOfResource, variable_count}
 use Rattle.sf_core.specs.Program.Syntax.{Block, done, then, Command, assign, look_up, mutate, new, dispose, if, while, call, fork, with, Program}
-use Rattle.sf_safe.specs.Checked.Lemmas.{local-weaken}
+use Rattle.sf_safe.specs.Checked.Lemmas.{calls-weaker, forks-weaker, local-weaken}
 use Rattle.sf_safe.specs.Checked.Local.{HasJustVars, HasVar, IsShare, Local, LocalParts, look, put_local, put_variable}
 use Rattle.sf_safe.specs.Checked.LocalSafe.{LocalSafe}
 use Rattle.sf_sound.specs.Checked.Suits.{is_of}
@@ -361,58 +361,41 @@ module _ (p : Program) (A : Var → Type 0) where
   }
   keep (suc n) End (command (call q c) ∷ rest) l a s = (
     s.0,
-    λ g i. let m = s.1 g i in record {
-      fits = m.fits;
-      lent = m.lent;
-      kept = m.kept;
-      parts = m.parts;
-      lends = m.lends;
-      goes_on = λ back after b k.
-          after-step n End rest l after
-          (kept-back A l m.lent m.kept after back m.parts k
-          (just-same (MayChange p c) back m.lent b.variables m.lends.variables)
-          (λ x z. (
-            just-none (MayChange p c) m.lent m.lends.variables x (λ y. z (a x (inl y))),
-            just-none (MayChange p c) back b.variables x (λ y. z (a x (inl y))),
-          )) (λ r. (m.lends.outside r, b.outside r)))
-          (keep n End rest after (λ x y. a x (inr y)) (m.goes_on back after b k));
-    },
+    λ g i. let m = s.1 g i in
+        calls-weaker p m (λ back after b k safe.
+        after-step n End rest l after
+        (kept-back A l m.lent m.kept after back m.parts k
+        (just-same (MayChange p c) back m.lent b.variables m.lends.variables)
+        (λ x z. (
+          just-none (MayChange p c) m.lent m.lends.variables x (λ y. z (a x (inl y))),
+          just-none (MayChange p c) back b.variables x (λ y. z (a x (inl y))),
+        )) (λ r. (m.lends.outside r, b.outside r)))
+        (keep n End rest after (λ x y. a x (inr y)) safe)),
   )
   keep (suc n) End (command (fork q c d) ∷ rest) l a s = (
     s.0,
     s.1,
-    λ g h i j. let m = s.2 g h i j in record {
-      fits_left = m.fits_left;
-      fits_right = m.fits_right;
-      lent = m.lent;
-      left = m.left;
-      right = m.right;
-      kept = m.kept;
-      parts = m.parts;
-      apart = m.apart;
-      lends_left = m.lends_left;
-      lends_right = m.lends_right;
-      goes_on = λ one two back after b o both k.
-          after-step n End rest l after
-          (kept-back A l m.lent m.kept after back m.parts k
-          (λ x. some-splits both.values x
-          ∙ ap₂ ◌||◌ (just-same (MayChange p c) one m.left b.variables m.lends_left.variables x)
-          (just-same (MayChange p d) two m.right o.variables m.lends_right.variables x)
-          ∙ sym (some-splits m.apart.values x))
-          (λ x z. (
-            splits-lacks_whole x m.apart.values
-                (just-none (MayChange p c) m.left m.lends_left.variables x (λ y. z (a x (inl (inl y)))))
-                (just-none (MayChange p d) m.right m.lends_right.variables x (λ y. z (a x (inl (inr y))))),
-            splits-lacks_whole x both.values
-                (just-none (MayChange p c) one b.variables x (λ y. z (a x (inl (inl y)))))
-                (just-none (MayChange p d) two o.variables x (λ y. z (a x (inl (inr y))))),
-          ))
-          (λ r. (
-            splits-lacks_whole r m.apart.tokens (m.lends_left.outside r) (m.lends_right.outside r),
-            splits-lacks_whole r both.tokens (b.outside r) (o.outside r),
-          )))
-          (keep n End rest after (λ x y. a x (inr y)) (m.goes_on one two back after b o both k));
-    },
+    λ g h i j. let m = s.2 g h i j in
+        forks-weaker p m (λ one two back after b o both k safe.
+        after-step n End rest l after
+        (kept-back A l m.lent m.kept after back m.parts k
+        (λ x. some-splits both.values x
+        ∙ ap₂ ◌||◌ (just-same (MayChange p c) one m.left b.variables m.lends_left.variables x)
+        (just-same (MayChange p d) two m.right o.variables m.lends_right.variables x)
+        ∙ sym (some-splits m.apart.values x))
+        (λ x z. (
+          splits-lacks_whole x m.apart.values
+              (just-none (MayChange p c) m.left m.lends_left.variables x (λ y. z (a x (inl (inl y)))))
+              (just-none (MayChange p d) m.right m.lends_right.variables x (λ y. z (a x (inl (inr y))))),
+          splits-lacks_whole x both.values
+              (just-none (MayChange p c) one b.variables x (λ y. z (a x (inl (inl y)))))
+              (just-none (MayChange p d) two o.variables x (λ y. z (a x (inl (inr y))))),
+        ))
+        (λ r. (
+          splits-lacks_whole r m.apart.tokens (m.lends_left.outside r) (m.lends_right.outside r),
+          splits-lacks_whole r both.tokens (b.outside r) (o.outside r),
+        )))
+        (keep n End rest after (λ x y. a x (inr y)) safe)),
   )
   keep (suc n) End (command (with q r test body) ∷ rest) l a s = record {
     there = s.there;

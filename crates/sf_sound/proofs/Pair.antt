@@ -34,7 +34,7 @@ use Rattle.sf_precise.specs.Order.{IsOrderOf, IsOrdering}
 use Rattle.sf_rules.specs.Setting.{IsSettingOf, Setting}
 use Rattle.sf_sym.specs.declared.tag.Tag.TheVariants as t
 use Rattle.sf_sound.proofs.AsWritten.{IsAsWritten, procedure-proved}
-use Rattle.sf_sound.proofs.Races.{sound-by}
+use Rattle.sf_sound.proofs.Races.{example-is-sound}
 use Rattle.sf_sound.proofs.SmallPrograms.{alone, everywhere, no_scope, none-named, of-two, set-nothing, set-of_each, bare-formed, by_value-unshared, small-within}
 use Rattle.sf_sound.specs.Checked.Examples.{PairIsSound, at_both, at_x, clear, clears, clears_both, hd, pair, pair_tags, place, x, y}
 use Rattle.sf_rules.specs.Proving.{Proves}
@@ -283,15 +283,5 @@ module _ (in_order : Assertion → Assertion) (ordering : IsOrdering in_order) w
   is-own = record { program = refl; sets = are-sets; ordering = ordering }
 
 pub pair_is_sound : ProofsAreSound → OrderingExists → PairIsSound
-unfolding OrderingExists
-pair_is_sound law (in_order, ordering, good) = record {
-  formed = formed;
-  conditions = conditions;
-  determined = determined;
-  setting = own_setting in_order ordering;
-  own = is-own in_order ordering;
-  proves = proves in_order ordering;
-  sound =
-      sound-by law pair formed conditions determined (own_setting in_order ordering) pair_tags
-      (is-own in_order ordering) (proves in_order ordering);
-}
+pair_is_sound law exists =
+    example-is-sound law exists pair pair_tags formed conditions determined own_setting is-own proves

@@ -25,9 +25,12 @@ use Rattle.sf_core.specs.Machine.Step.{Step}
 use Rattle.sf_core.specs.Program.Formed.{IsFormed}
 use Rattle.sf_core.specs.Program.Syntax.{Assertion, Procedure, Program}
 use Rattle.sf_precise.specs.Annotations.{annotations_in}
+use Rattle.sf_precise.specs.Checked.Laws.{OrderingExists}
+use Rattle.sf_precise.specs.Order.{IsOrdering}
 use Rattle.sf_rules.specs.Proving.{Proves}
 use Rattle.sf_rules.specs.Setting.{IsSettingOf, Setting}
 use Rattle.sf_core.specs.Machine.Sound.{IsSound}
+use Rattle.sf_sound.specs.Checked.Examples.{ExampleIsSound}
 use Rattle.sf_sound.specs.Checked.ExamplesOfRaces.{RacesAtFork}
 use Rattle.sf_sound.specs.Proofs.{ProofsAreSound}
 use Rattle.sf_sym.specs.declared.tag.Tag.{Tag}
@@ -111,3 +114,25 @@ sound-by law p formed conditions determined d tags suits proves =
     (subst (λ q. (a : Assertion) → Contains (annotations_in q) a → Determined a.level) back
     (λ a among. All-contains (λ (b : Assertion). Determined b.level) (annotations_in p) a determined among))
     suits.ordering proves)
+
+-- so an example is, where it has a proof in each order of annotations
+pub example-is-sound : ProofsAreSound → OrderingExists → (p : Program) (tags : List Tag) → IsFormed p → Conditions p
+    → All (λ (a : Assertion). Determined a.level) (annotations_in p)
+    → (setting : (in_order : Assertion → Assertion) → IsOrdering in_order → Setting)
+    →
+    ((in_order : Assertion → Assertion) (ordering : IsOrdering in_order) → IsSettingOf p (setting in_order ordering))
+    → ((in_order : Assertion → Assertion) (ordering : IsOrdering in_order) → Proves (setting in_order ordering) tags)
+    → ExampleIsSound p tags
+unfolding OrderingExists
+example-is-sound law (in_order, ordering, good) p tags formed conditions determined setting suits proves =
+    let d = setting in_order ordering in
+    record {
+      formed = formed;
+      conditions = conditions;
+      determined = determined;
+      setting = d;
+      own_setting = suits in_order ordering;
+      proves = proves in_order ordering;
+      sound =
+          sound-by law p formed conditions determined d tags (suits in_order ordering) (proves in_order ordering);
+    }

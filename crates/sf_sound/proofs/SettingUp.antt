@@ -35,7 +35,7 @@ use Rattle.sf_precise.specs.Order.{IsOrdering}
 use Rattle.sf_rules.specs.Proving.{Proves}
 use Rattle.sf_rules.specs.Setting.{IsSettingOf, Setting}
 use Rattle.sf_sound.proofs.AsWritten.{IsAsWritten, procedure-proved}
-use Rattle.sf_sound.proofs.Races.{sound-by}
+use Rattle.sf_sound.proofs.Races.{example-is-sound, sound-by}
 use Rattle.sf_sound.proofs.SmallPrograms.{cell-determined, cell-ordered, cell-within, emp-determined, emp-no_var, emp-ordered, emp-within, everywhere, of-two, set-nothing, set-of_each, set-single, small-within}
 use Rattle.sf_sound.specs.Checked.ExamplesOfInit.{SetUpIsSound, UnmetInvariantsHaveNoProof, set_up_tags}
 use Rattle.sf_sound.specs.Proofs.{ProofsAreSound}
@@ -277,18 +277,8 @@ module _ (in_order : Assertion → Assertion) (ordering : IsOrdering in_order) w
   is-own = record { program = refl; sets = are-sets; ordering = ordering }
 
 pub set_up_is_sound : ProofsAreSound → OrderingExists → SetUpIsSound
-unfolding OrderingExists
-set_up_is_sound law (in_order, ordering, good) = record {
-  formed = formed;
-  conditions = conditions;
-  determined = determined;
-  setting = own_setting in_order ordering;
-  own_setting = is-own in_order ordering;
-  proves = proves in_order ordering;
-  sound =
-      sound-by law p formed conditions determined (own_setting in_order ordering) set_up_tags
-      (is-own in_order ordering) (proves in_order ordering);
-}
+set_up_is_sound law exists =
+    example-is-sound law exists p set_up_tags formed conditions determined own_setting is-own proves
 
 -- WITH THE BODY THAT MAKES NOTHING
 abbrev q : Program

@@ -7,6 +7,7 @@ use Rattle.sf_base.specs.declared.ids.Var.TheVariants.{Own}
 use Rattle.sf_base.specs.declared.place.Place.{Place}
 use Rattle.sf_core.specs.declared.assertion.Operand.{Operand}
 use Rattle.sf_core.specs.declared.assertion.Operand.TheVariants.{Known}
+use Rattle.sf_core.specs.Checked.Machine.Examples.{procedure}
 use Rattle.sf_core.specs.declared.command.Expr.{Expr}
 use Rattle.sf_calls.specs.FirstBreach.{Conditions}
 use Rattle.sf_core.specs.Assertions.Determined.{Determined}
@@ -42,17 +43,8 @@ at_x fields =
 
 -- f(x) [x|->] { x->hd = nil; } [x|->hd:nil]
 abbrev pub clears : Procedure
-clears = record {
-  name = codes "f";
-  place = place;
-  names = codes "x" ∷ [];
-  references = 0;
-  values = 1;
-  locals = 0;
-  pre = at_x [];
+clears = record (procedure (codes "x" ∷ []) 0 1 (at_x []) (then (mutate place x hd Nil) done)) {
   post = at_x ((hd, Known Nil) ∷ []);
-  body = then (mutate place x hd Nil) done;
-  end = place;
 }
 
 -- the parameter y
@@ -74,18 +66,11 @@ clear e = record { callee = record { 0 = 0 }; place = place; references = []; va
 
 -- g(x, y) [x|-> * y|->] { f(x) || f(y); } [x|->hd:nil * y|->hd:nil]
 abbrev pub clears_both : Procedure
-clears_both = record {
-  name = codes "g";
-  place = place;
-  names = codes "x" ∷ codes "y" ∷ [];
-  references = 0;
-  values = 2;
-  locals = 0;
-  pre = at_both [];
-  post = at_both ((hd, Known Nil) ∷ []);
-  body = then (fork place (clear x) (clear y)) done;
-  end = place;
-}
+clears_both = record (procedure (codes "x" ∷ codes "y" ∷ []) 0 2 (at_both [])
+    (then (fork place (clear x) (clear y)) done)) {
+      name = codes "g";
+      post = at_both ((hd, Known Nil) ∷ []);
+    }
 
 -- the program with both procedures
 abbrev pub pair : Program
@@ -98,12 +83,17 @@ pair_tags =
     ∷ t.Procedure (record { 0 = 1 }) ∷ t.Add ∷ t.Add ∷ t.Fork ∷ t.Cell 1 ∷ t.Cell 2 ∷ t.Give ∷ t.Add ∷ t.Add
     ∷ t.Return ∷ t.Cell 3 ∷ t.Cell 4 ∷ t.End ∷ []
 
--- it keeps what the theorem asks of a program, the tags prove it by the rows of the whole table, and it is sound
-pub record PairIsSound : Type 0 where
-  pub formed : IsFormed pair
-  pub conditions : Conditions pair
-  pub determined : All (λ a. Determined a.level) (annotations_in pair)
+-- ExampleIsSound: the program keeps what the theorem asks of one, the tags prove it by the rows of the whole table, and it
+-- is sound
+pub record ExampleIsSound (p : Program) (tags : List Tag) : Type 0 where
+  pub formed : IsFormed p
+  pub conditions : Conditions p
+  pub determined : All (λ a. Determined a.level) (annotations_in p)
   pub setting : Setting
-  pub own : IsSettingOf pair setting
-  pub proves : Proves setting pair_tags
-  pub sound : IsSound pair
+  pub own_setting : IsSettingOf p setting
+  pub proves : Proves setting tags
+  pub sound : IsSound p
+
+-- the program with both procedures is so, by these tags
+abbrev pub PairIsSound : Type 0
+PairIsSound = ExampleIsSound pair pair_tags

@@ -11,6 +11,7 @@ use Rattle.sf_core.specs.Program.Formed.{IsFormed}
 use Rattle.sf_precise.specs.Annotations.{annotations_in}
 use Rattle.sf_rules.specs.Proving.{Proves}
 use Rattle.sf_rules.specs.Setting.{IsSettingOf, Setting}
+use Rattle.sf_sound.specs.Checked.Examples.{ExampleIsSound}
 use Rattle.sf_sym.specs.declared.tag.Tag.{Tag}
 use Rattle.sf_sym.specs.declared.tag.Tag.TheVariants as t
 
@@ -21,14 +22,8 @@ set_up_tags =
     ∷ t.Procedure (record { 0 = 1 }) ∷ t.New ∷ t.Return ∷ t.Cell 1 ∷ t.End ∷ []
 
 -- it keeps what the theorem asks of a program, the tags prove it by the rows of the whole table, and it is sound
-pub record SetUpIsSound : Type 0 where
-  pub formed : IsFormed (set_up_by makes_its_cell)
-  pub conditions : Conditions (set_up_by makes_its_cell)
-  pub determined : All (λ a. Determined a.level) (annotations_in (set_up_by makes_its_cell))
-  pub setting : Setting
-  pub own_setting : IsSettingOf (set_up_by makes_its_cell) setting
-  pub proves : Proves setting set_up_tags
-  pub sound : IsSound (set_up_by makes_its_cell)
+abbrev pub SetUpIsSound : Type 0
+SetUpIsSound = ExampleIsSound (set_up_by makes_its_cell) set_up_tags
 
 -- with init() { } in its place it keeps all that too. But where it starts fresh, `init` is at its return and there is no
 -- cell for the invariant: so it isn't sound, and no tags prove it

@@ -1,22 +1,15 @@
 -- An example of regions that hand a cell from one task to another: the buffer with one place.
 -- It is that of O'Hearn, "Resources, Concurrency and Local Reasoning" (2007).
 use Rattle.std.specs.Prelude.{pos, List, [], ◌∷◌, codes}
-use Rattle.std.specs.List.{All}
 use Rattle.sf_base.specs.declared.ids.Var.TheVariants.{Shared}
-use Rattle.sf_calls.specs.FirstBreach.{Conditions}
-use Rattle.sf_core.specs.Assertions.Determined.{Determined}
 use Rattle.sf_core.specs.declared.assertion.Operand.TheVariants.{Known}
 use Rattle.sf_core.specs.declared.assertion.Scope.{Scope}
 use Rattle.sf_core.specs.declared.assertion.Test.TheVariants.{Equal, Differ}
 use Rattle.sf_core.specs.declared.command.Expr.TheVariants.{Var as Variable, Int}
 use Rattle.sf_core.specs.declared.command.Occurrence.{Occurrence}
-use Rattle.sf_core.specs.Checked.Machine.Examples.{at_own, calls, emp, here, lock, one_cell, own_one}
-use Rattle.sf_core.specs.Program.Formed.{IsFormed}
+use Rattle.sf_core.specs.Checked.Machine.Examples.{at_own, calls, emp, here, lock, one_cell, own_one, procedure}
 use Rattle.sf_core.specs.Program.Syntax.{choose, level, none, also, points, assign, dispose, done, fork, new, then, with, Assertion, Call, Procedure, Program, Resource}
-use Rattle.sf_precise.specs.Annotations.{annotations_in}
-use Rattle.sf_rules.specs.Proving.{Proves}
-use Rattle.sf_rules.specs.Setting.{IsSettingOf, Setting}
-use Rattle.sf_core.specs.Machine.Sound.{IsSound}
+use Rattle.sf_sound.specs.Checked.Examples.{ExampleIsSound}
 use Rattle.sf_sym.specs.declared.tag.Tag.{Tag}
 use Rattle.sf_sym.specs.declared.tag.Tag.TheVariants as t
 use Rattle.sf_sym.specs.declared.term.Term.TheVariants.{Int as number, Sym}
@@ -48,36 +41,21 @@ buf = record { name = codes "buf"; variables = codes "c" ∷ codes "full" ∷ []
 
 -- put(x) [x |->] { with buf when (full == 0) { c = x; full = 1; } } []
 abbrev pub put : Procedure
-put = record {
-  name = codes "put";
-  place = here;
-  names = codes "x" ∷ [];
-  references = 0;
-  values = 1;
-  locals = 0;
-  pre = one_cell;
-  post = emp;
-  body = then (with here lock (Equal (Variable full) (Int (pos 0)))
-      (then (assign here c (own_one 0)) (then (assign here full (Int (pos 1))) done))) done;
-  end = here;
-}
+put = record (procedure (codes "x" ∷ []) 0 1 one_cell
+    (then (with here lock (Equal (Variable full) (Int (pos 0)))
+    (then (assign here c (own_one 0)) (then (assign here full (Int (pos 1))) done))) done)) {
+      name = codes "put";
+      post = emp;
+    }
 
 -- get(y;) [] { with buf when (full != 0) { y = c; full = 0; } } [y |->]
 abbrev pub get : Procedure
-get = record {
-  name = codes "get";
-  place = here;
-  names = codes "y" ∷ [];
-  references = 1;
-  values = 0;
-  locals = 0;
-  pre = emp;
-  post = one_cell;
-  body = then (with here lock (Differ (Variable full) (Int (pos 0)))
-      (then (assign here (at_own 0) (Variable c))
-      (then (assign here full (Int (pos 0))) done))) done;
-  end = here;
-}
+get = record (procedure (codes "y" ∷ []) 1 0 emp
+    (then (with here lock (Differ (Variable full) (Int (pos 0)))
+    (then (assign here (at_own 0) (Variable c)) (then (assign here full (Int (pos 0))) done))) done)) {
+      name = codes "get";
+      post = one_cell;
+    }
 
 -- put(x), where x is the first variable
 abbrev pub puts_x : Call
@@ -89,19 +67,10 @@ gets_y = record { callee = record { 0 = 1 }; place = here; references = at_own 1
 
 -- main() [] { local x, y; x = new(); put(x) || get(y;); dispose(y); } []
 abbrev pub passes_on : Procedure
-passes_on = record {
-  name = codes "main";
-  place = here;
-  names = codes "x" ∷ codes "y" ∷ [];
-  references = 0;
-  values = 0;
-  locals = 2;
-  pre = emp;
-  post = emp;
-  body = then (new here (at_own 0))
-      (then (fork here puts_x gets_y) (then (dispose here (own_one 1)) done));
-  end = here;
-}
+passes_on = record (procedure (codes "x" ∷ codes "y" ∷ []) 0 0 emp
+    (then (new here (at_own 0)) (then (fork here puts_x gets_y) (then (dispose here (own_one 1)) done)))) {
+      name = codes "main";
+    }
 
 -- the three, with the resource
 abbrev pub buffer : Program
@@ -121,11 +90,5 @@ buffer_tags =
 
 -- it keeps what the theorem asks of a program, the tags prove it by the rows of the whole table,
 -- and it is sound: the task that gets the cell may dispose of it, though another one made it
-pub record BufferIsSound : Type 0 where
-  pub formed : IsFormed buffer
-  pub conditions : Conditions buffer
-  pub determined : All (λ a. Determined a.level) (annotations_in buffer)
-  pub setting : Setting
-  pub own_setting : IsSettingOf buffer setting
-  pub proves : Proves setting buffer_tags
-  pub sound : IsSound buffer
+abbrev pub BufferIsSound : Type 0
+BufferIsSound = ExampleIsSound buffer buffer_tags
