@@ -7,7 +7,7 @@ use Rattle.sf_base.proofs.MapSplits.{empty-holds, map-same, splits-empty_right, 
 use Rattle.sf_base.specs.declared.ids.ResId.{ResId}
 use Rattle.sf_base.specs.declared.place.Place.{Place}
 use Rattle.sf_base.specs.declared.value.Value.{Value}
-use Rattle.sf_base.specs.HeapStore.{IsEmpty, Map, Slot, own, shared}
+use Rattle.sf_base.specs.HeapStore.{IsEmpty, Map, Slot, Splits, own, shared}
 use Rattle.sf_core.specs.declared.command.Expr.{Expr}
 use Rattle.sf_core.specs.declared.command.Expr.TheVariants.{Var as Variable, Nil, Int}
 use Rattle.sf_core.specs.Machine.Config.{Item, command, Fixed, Frame, Room, Common, in_room}
@@ -21,7 +21,7 @@ use Rattle.sf_part.specs.Steps.{common_of}
 use Rattle.sf_safe.specs.Checked.Contract.{Entered, Known, Returned}
 use Rattle.sf_safe.specs.Checked.Fewer.{fewer-callers}
 use Rattle.sf_safe.specs.Checked.Invariant.{known, Running, Waiting}
-use Rattle.sf_safe.specs.Checked.Own.{Own, HasAll, HasExpr, Parts, new_slots}
+use Rattle.sf_safe.specs.Checked.Own.{Own, HasAll, HasExpr, Parts, new_slots, nothing}
 use Rattle.sf_safe.specs.Checked.Owns.{Sums, front, group, has-left, opened, order, parts-comm, splits-filled, two}
 use Rattle.sf_safe.specs.Checked.Rooms.{AllMade, room-apart, room-fresh}
 use Rattle.sf_safe.specs.Checked.Seen.{seen-arguments}
@@ -51,30 +51,29 @@ sums-empty {w} {u} {v} i j (x, p, (y, q, e)) = splits-empty_whole i
     (splits-empty_whole j (subst (λ (z : Own). IsEmpty z.tokens) (sym e) empty-holds) q.tokens)
     p.tokens
 
--- the parts of a sum as unions
-pub sums-cells : {w a b c : Own} → Sums w (a ∷ b ∷ c ∷ [])
-    → IsUnion w.cells (a.cells ∷ b.cells ∷ c.cells ∷ [])
-sums-cells (x, p, (y, q, (z, r, e))) = (
-  x.cells,
-  p.cells,
+-- of a sum of three, each kind of things is a union of the parts'
+sums-union : {K X : Type 0} (of : Own → Map K X)
+    → ((w u v : Own) → Parts w u v → Splits (of w) (of u) (of v)) → IsEmpty (of nothing)
+    → (w a b c : Own) → Sums w (a ∷ b ∷ c ∷ []) → IsUnion (of w) (of a ∷ of b ∷ of c ∷ [])
+sums-union of splits none w a b c (x, p, (y, q, (z, r, e))) = (
+  of x,
+  splits w a x p,
   (
-    y.cells,
-    q.cells,
-    (z.cells, r.cells, subst (λ (i : Own). IsEmpty i.cells) (sym e) empty-holds),
+    of y,
+    splits x b y q,
+    (of z, splits y c z r, subst (λ (i : Own). IsEmpty (of i)) (sym e) none),
   ),
 )
 
+pub sums-cells : {w a b c : Own} → Sums w (a ∷ b ∷ c ∷ [])
+    → IsUnion w.cells (a.cells ∷ b.cells ∷ c.cells ∷ [])
+sums-cells {w} {a} {b} {c} s =
+    sums-union (λ (i : Own). i.cells) (λ w u v p. p.cells) empty-holds w a b c s
+
 pub sums-slots : {w a b c : Own} → Sums w (a ∷ b ∷ c ∷ [])
     → IsUnion w.slots (a.slots ∷ b.slots ∷ c.slots ∷ [])
-sums-slots (x, p, (y, q, (z, r, e))) = (
-  x.slots,
-  p.slots,
-  (
-    y.slots,
-    q.slots,
-    (z.slots, r.slots, subst (λ (i : Own). IsEmpty i.slots) (sym e) empty-holds),
-  ),
-)
+sums-slots {w} {a} {b} {c} s =
+    sums-union (λ (i : Own). i.slots) (λ w u v p. p.slots) empty-holds w a b c s
 
 -- what a fork leaves: what the parent keeps and waits with, and what each child begins with
 pub record Lending (p : Program) (n : ℕ) (owed left right : Known) (frames : List Frame)

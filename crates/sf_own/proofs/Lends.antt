@@ -5,6 +5,7 @@ use Rattle.std.proofs.Common.{sym, ap, ap₂, ◌∙◌, refl, subst, inl, inr}
 use Rattle.sf_base.proofs.Elements.{contains-cons}
 use Rattle.sf_base.proofs.Options.{is_some-false}
 use Rattle.sf_base.specs.declared.limits.TheConstants.{TURNS}
+use Rattle.sf_base.specs.declared.path.Turn.{Turn}
 use Rattle.sf_base.specs.declared.path.Turn.TheVariants.{Left as left, Right as right}
 use Rattle.sf_base.specs.declared.ids.Var.{Var}
 use Rattle.sf_base.specs.declared.place.Place.{Place}
@@ -129,37 +130,28 @@ module _ (p : Program) (accepted : IsAccepted p) (owed : Known) (a : TimedPart) 
     store = (opened_own a.part f number c d g h).slots;
   }
 
-  abbrev one : TimedPart
-  one = record {
+  -- a child that runs those frames, with what it is lent and those units
+  abbrev child : Turn → List Frame → Own → List ℕ → TimedPart
+  child turn frames share given = record {
     part = record {
-      task = a.part.task ++ left ∷ [];
-      stand = running left_frames;
-      heap = lending.one.cells;
-      store = lending.one.slots;
+      task = a.part.task ++ turn ∷ [];
+      stand = running frames;
+      heap = share.cells;
+      store = share.slots;
       holds = λ r. false;
-      supply = singles (take (length units / 2) units);
+      supply = singles given;
     };
     clock = suc a.clock;
     keeps = a.keeps;
     log = [];
-    given = length (numbers (singles (take (length units / 2) units)));
+    given = length (numbers (singles given));
   }
 
+  abbrev one : TimedPart
+  one = child left left_frames lending.one (take (length units / 2) units)
+
   abbrev two : TimedPart
-  two = record {
-    part = record {
-      task = a.part.task ++ right ∷ [];
-      stand = running right_frames;
-      heap = lending.two.cells;
-      store = lending.two.slots;
-      holds = λ r. false;
-      supply = singles (drop (length units / 2) units);
-    };
-    clock = suc a.clock;
-    keeps = a.keeps;
-    log = [];
-    given = length (numbers (singles (drop (length units / 2) units)));
-  }
+  two = child right right_frames lending.two (drop (length units / 2) units)
 
   abbrev after : TimedPart
   after = record {

@@ -210,13 +210,18 @@ private_events_keep_lent p event a b lent e k h = record {
         e.acts.steps
 
 -- Maps of which a slot is in one
+-- what a map has, it has with a value
+has-value : (x : Store) (slot : Slot) → is_some (x slot) ≡ true → (v : Value) × (x slot ≡ Some v)
+has-value x slot h = go (x slot) refl h
+  where
+    go : (o : Option Value) → x slot ≡ o → is_some o ≡ true → (v : Value) × (x slot ≡ Some v)
+    go None e i = absurd (true≢false (sym i))
+    go (Some v) e i = (v, e)
+
 some-left : (w x y : Store) (slot : Slot) → Splits w x y → is_some (x slot) ≡ true
     → is_some (w slot) ≡ true
-some-left w x y slot s h = go (x slot) refl h
-  where
-    go : (o : Option Value) → x slot ≡ o → is_some o ≡ true → is_some (w slot) ≡ true
-    go None e i = absurd (true≢false (sym i))
-    go (Some v) e i = ap is_some (splits-has_left slot v s e)
+some-left w x y slot s h =
+    let (v, e) = has-value x slot h in ap is_some (splits-has_left slot v s e)
 
 some-right : (w x y : Store) (slot : Slot) → Splits w x y → is_some (y slot) ≡ true
     → is_some (w slot) ≡ true
@@ -225,11 +230,8 @@ some-right w x y slot s h = some-left w y x slot (splits-comm s) h
 -- what the one part has, the other one lacks
 left-lacks : (w x y : Store) (slot : Slot) → Splits w x y → is_some (x slot) ≡ true
     → is_some (y slot) ≡ false
-left-lacks w x y slot s h = go (x slot) refl h
-  where
-    go : (o : Option Value) → x slot ≡ o → is_some o ≡ true → is_some (y slot) ≡ false
-    go None e i = absurd (true≢false (sym i))
-    go (Some v) e i = ap is_some (splits-lacks_right slot v s e)
+left-lacks w x y slot s h =
+    let (v, e) = has-value x slot h in ap is_some (splits-lacks_right slot v s e)
 
 -- what the whole has, and the one part lacks, the other one has
 some-other : (w x y : Store) (slot : Slot) → Splits w x y → is_some (w slot) ≡ true

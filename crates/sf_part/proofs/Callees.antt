@@ -223,20 +223,23 @@ module _ (p : Program) (formed : IsFormed p) (a : CodePart) (of : IsPartOf p a) 
   pub fork-grows : Grows before.store (forked_of x before).store
   fork-grows = subst (λ (z : Common). Grows before.store z.store) (sym fork-after) grows
 
+  -- a child with the frame that was planned is the program's where it is with the frame of the step
+  as-planned : {f g : Frame} (h : Procedure) → f ≡ g → (whole : Store) (b : Part)
+      → (HasJust p g h whole b.store → b.stand ≡ running (g ∷ []) → b.holds ≡ (λ r. false) → IsOf p b)
+      → HasJust p f h whole b.store → b.stand ≡ running (f ∷ []) → b.holds ≡ (λ r. false) → IsOf p b
+  as-planned h e whole b of just stand holds =
+      of (subst (λ z. HasJust p z h whole b.store) e just) (stand ∙ ap (λ z. running (z ∷ [])) e) holds
+
   pub fork-left_of : (whole : Store) (b : Part)
       → HasJust p (frame_of x.left.frame) left whole b.store
       → b.stand ≡ running (frame_of x.left.frame ∷ []) → b.holds ≡ (λ r. false) → IsOf p b
-  fork-left_of whole b just stand holds =
-      child-of p formed before.store s.fixed s.rest both_calls s.one left refl left_call
-      fork-frames.0 s.does.3 left_room refl after.store grows left_opens fork-order.0 whole b
-      (subst (λ z. HasJust p z left whole b.store) fork-left just)
-      (stand ∙ ap (λ z. running (z ∷ [])) fork-left) holds
+  fork-left_of whole b = as-planned left fork-left whole b
+      (child-of p formed before.store s.fixed s.rest both_calls s.one left refl left_call
+      fork-frames.0 s.does.3 left_room refl after.store grows left_opens fork-order.0 whole b)
 
   pub fork-right_of : (whole : Store) (b : Part)
       → HasJust p (frame_of x.right.frame) right whole b.store
       → b.stand ≡ running (frame_of x.right.frame ∷ []) → b.holds ≡ (λ r. false) → IsOf p b
-  fork-right_of whole b just stand holds =
-      child-of p formed before.store s.fixed s.rest both_calls s.two right refl right_call
-      fork-frames.0 s.does.4 right_room refl after.store grows right_opens fork-order.0 whole b
-      (subst (λ z. HasJust p z right whole b.store) fork-right just)
-      (stand ∙ ap (λ z. running (z ∷ [])) fork-right) holds
+  fork-right_of whole b = as-planned right fork-right whole b
+      (child-of p formed before.store s.fixed s.rest both_calls s.two right refl right_call
+      fork-frames.0 s.does.4 right_room refl after.store grows right_opens fork-order.0 whole b)

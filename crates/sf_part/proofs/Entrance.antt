@@ -43,7 +43,7 @@ use Rattle.sf_part.specs.Timed.{TimedPart}
 use Rattle.sf_part.specs.Steps.{Enters, HasInHand, common_of as part_common}
 use Rattle.sf_part.specs.Checked.Lemmas.Shapes.{next-shape}
 use Rattle.sf_part.proofs.Entries.{enter-frames, enter-slots}
-use Rattle.sf_part.proofs.Made.{part-common}
+use Rattle.sf_part.proofs.Made.{in-hand, part-common, same-held, takes-first}
 use Rattle.sf_part.proofs.Orders.{order-enter}
 use Rattle.sf_part.proofs.Supplies.{one_if}
 
@@ -115,14 +115,8 @@ module _ (p : Program) (formed : IsFormed p) (a b : CodePart) (k : Content) (num
   }
 
   hand : HasInHand (part_of a).part (content_of k).content both
-  hand = record {
-    task = refl;
-    stand = refl;
-    holds = refl;
-    supply = refl;
-    heap = made.heap;
-    store = made.store;
-  }
+  hand = in-hand (part_of a).part (content_of k).content (common_of b.shared).heap
+      (common_of b.shared).store made.heap made.store
 
   -- the condition is true of what it has then
   holds-there : IsTrueOf (evaluate s.fixed.slots (common_of b.shared).store) s.test
@@ -141,17 +135,11 @@ module _ (p : Program) (formed : IsFormed p) (a b : CodePart) (k : Content) (num
 
   common-after : part_common (part_of b).part ≡ set_holder k.resource (Some a.task)
       (part_common both)
-  common-after = λ i. record {
-    heap = (common_of b.shared).heap;
-    store = (common_of b.shared).store;
-    held = holders-after i;
-  }
+  common-after = same-held (common_of b.shared).heap (common_of b.shared).store holders-after
 
   takes : NextTakes (own_event a number) (next (runs frames)) (has (numbers a.supply))
       (has (numbers b.supply))
-  takes = subst (λ z. NextTakes (own_event a number) (next (runs frames)) (has z)
-      (has (numbers b.supply)))
-      (sym (units ∙ ap (λ z. number ∷ z) (sym made.supply)))
+  takes = takes-first (own_event a number) (next (runs frames)) a b units made.supply
       (numbers b.supply, (refl, refl), refl)
 
   -- it is an entry

@@ -54,7 +54,7 @@ use Rattle.sf_part.specs.Stands.{stand_in}
 use Rattle.sf_part.specs.Steps.{Exits, HasInHand, common_of as part_common}
 use Rattle.sf_part.proofs.Giving.{given-same}
 use Rattle.sf_part.proofs.Held.{times-regions}
-use Rattle.sf_part.proofs.Made.{part-common}
+use Rattle.sf_part.proofs.Made.{in-hand, part-common, same-held, takes-first}
 use Rattle.sf_part.proofs.Orders.{order-leave}
 use Rattle.sf_part.proofs.Spared.{GoneOf, Stays, spare-frames, spare-left}
 use Rattle.sf_part.proofs.Supplies.{one_if}
@@ -172,14 +172,8 @@ module _ (p : Program) (formed : IsFormed p) (a : CodePart) (of : IsPartOf p a) 
     }
 
     hand : HasInHand (part_of b).part (content_of k).content both
-    hand = record {
-      task = refl;
-      stand = refl;
-      holds = refl;
-      supply = refl;
-      heap = made.heap;
-      store = made.store;
-    }
+    hand = in-hand (part_of b).part (content_of k).content (common_of a.shared).heap
+        (common_of a.shared).store made.heap made.store
 
     held : (part_common (part_of a).part).held r ≡ Some a.task
     held = ap (λ z. cond z (Some a.task) None) exit-holds
@@ -191,17 +185,11 @@ module _ (p : Program) (formed : IsFormed p) (a : CodePart) (of : IsPartOf p a) 
         (ap (λ (z : Common). z.held q) (sym (part-common a)) i))
 
     common-after : part_common both ≡ set_holder r None (part_common (part_of a).part)
-    common-after = λ i. record {
-      heap = (common_of a.shared).heap;
-      store = (common_of a.shared).store;
-      held = holders-after i;
-    }
+    common-after = same-held (common_of a.shared).heap (common_of a.shared).store holders-after
 
     takes : NextTakes (own_event a number) (next (runs frames)) (has (numbers a.supply))
         (has (numbers b.supply))
-    takes = subst (λ z. NextTakes (own_event a number) (next (runs frames)) (has z)
-        (has (numbers b.supply)))
-        (sym (units ∙ ap (λ z. number ∷ z) (sym made.supply)))
+    takes = takes-first (own_event a number) (next (runs frames)) a b units made.supply
         (numbers b.supply, (refl, refl), refl)
 
     -- it is an exit

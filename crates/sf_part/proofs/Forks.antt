@@ -22,7 +22,7 @@ use Rattle.sf_part.specs.Checked.Laws.{Leads}
 use Rattle.sf_part.specs.Supplied.{Supplied}
 use Rattle.sf_part.proofs.Order.{content_heap, content_store, part_heap, part_store, whole-focus, whole-unfocus}
 use Rattle.sf_part.proofs.Supplies.{count-append, count-cons, times}
-use Rattle.sf_part.proofs.Tasks.{tasks-ended, tasks-fork, tasks-join, tasks-runs}
+use Rattle.sf_part.proofs.Tasks.{own-task, tasks-ended, tasks-fork, tasks-join}
 use Rattle.sf_part.proofs.Unions.{union-gather, union-open}
 
 -- a part that holds no resource
@@ -100,8 +100,8 @@ fork-step p ev a b one two others contents c e w =
     (lent (has (numbers one.part.supply)) (has (numbers two.part.supply))) e.spends)
     (λ r m. absurd (still r m)) in
     let task = sym e.children.task ∙ e.acts.task in
-    let there = subst (λ z. task_at z c.tasks ≡ Some (runs e.frames)) (sym e.acts.own)
-    (tasks-runs c.tasks a.part (map own_stand others) e.frames w.tasks e.acts.from_is) in
+    let there = (own-task c.tasks a.part (map own_stand others) e.frames e.acts.own w.tasks
+    e.acts.from_is).0 in
     record {
       config = next_config c ev s.after to;
       step = next-step p ev c (runs e.frames) to s.after number.used there s.steps;

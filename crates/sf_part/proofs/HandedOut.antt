@@ -57,7 +57,7 @@ use Rattle.sf_part.specs.Steps.{HandsOut, IsSettling, common_of as part_common}
 use Rattle.sf_part.specs.Timed.{TimedContent, TimedPart}
 use Rattle.sf_part.proofs.Entrance.{made-stands}
 use Rattle.sf_part.proofs.Held.{times-regions}
-use Rattle.sf_part.proofs.Made.{part-common}
+use Rattle.sf_part.proofs.Made.{part-common, same-held, takes-first}
 use Rattle.sf_part.proofs.Owned.{room-there}
 use Rattle.sf_part.proofs.Spared.{Spares, Stays, exits-inside, spare-frames}
 use Rattle.sf_part.proofs.Supplies.{one_if}
@@ -375,17 +375,11 @@ module _ (p : Program) (formed : IsFormed p) (conditions : Conditions p) (a : Co
         ∙ (λ i. λ r. cond (sym init i) None ((part_common (part_of a).part).held r))
 
     common_is : part_common all ≡ returned p s.fixed (part_common (part_of a).part)
-    common_is = λ i. record {
-      heap = (common_of a.shared).heap;
-      store = closed;
-      held = held_is i;
-    }
+    common_is = same-held (common_of a.shared).heap closed held_is
 
     takes : NextTakes (own_event a number) (next (runs frames)) (has (numbers a.supply))
         (has (numbers b.supply))
-    takes = subst (λ z. NextTakes (own_event a number) (next (runs frames)) (has z)
-        (has (numbers b.supply)))
-        (sym (units ∙ ap (λ z. number ∷ z) (sym made.supply)))
+    takes = takes-first (own_event a number) (next (runs frames)) a b units made.supply
         (numbers b.supply, (refl, refl), refl)
 
     pub settled-gives : GivesEach p (own_event a number) (part_of a) (timed_of contents) (part_of b)

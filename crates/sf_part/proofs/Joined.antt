@@ -243,52 +243,34 @@ module _ (a one two b : CodePart) (number : ℕ)
       blank = blank ∙ of.blank;
     }
 
+-- a part with other cells and slots
+abbrev with_shared : (a : CodePart) (shared : Shared)
+    → Keeps (part_with a.task a.stand shared a.supply a.clock a.keeps a.log.items a.given)
+    → AreOwn shared.held a.task → CodePart
+with_shared a shared kept owns = record {
+  task = a.task;
+  stand = a.stand;
+  shared = shared;
+  supply = a.supply;
+  clock = a.clock;
+  keeps = a.keeps;
+  log = a.log;
+  given = a.given;
+  blank = a.blank;
+  kept = kept;
+  own = owns;
+}
+
 -- a part whose pieces are those of another is that one
 pub same-whole : (a : CodePart) (shared : Shared) → shared ≡ a.shared
     → (kept : Keeps (part_with a.task a.stand shared a.supply a.clock a.keeps a.log.items a.given))
-    → (owns : AreOwn shared.held a.task)
-    → ◌≡◌ {A = CodePart} (record {
-      task = a.task;
-      stand = a.stand;
-      shared = shared;
-      supply = a.supply;
-      clock = a.clock;
-      keeps = a.keeps;
-      log = a.log;
-      given = a.given;
-      blank = a.blank;
-      kept = kept;
-      own = owns;
-    }) a
+    → (owns : AreOwn shared.held a.task) → with_shared a shared kept owns ≡ a
 same-whole a shared e =
     let P : Shared → Type 0 = λ s.
     (kept : Keeps (part_with a.task a.stand s a.supply a.clock a.keeps a.log.items a.given))
-    → (owns : AreOwn s.held a.task) → ◌≡◌ {A = CodePart} (record {
-      task = a.task;
-      stand = a.stand;
-      shared = s;
-      supply = a.supply;
-      clock = a.clock;
-      keeps = a.keeps;
-      log = a.log;
-      given = a.given;
-      blank = a.blank;
-      kept = kept;
-      own = owns;
-    }) a in
-    subst P (sym e) (λ kept owns. λ i. record {
-      task = a.task;
-      stand = a.stand;
-      shared = a.shared;
-      supply = a.supply;
-      clock = a.clock;
-      keeps = a.keeps;
-      log = a.log;
-      given = a.given;
-      blank = a.blank;
-      kept = Keeps-prop (part_of a) kept a.kept i;
-      own = AreOwn-prop a.shared.held a.task owns a.own i;
-    })
+    → (owns : AreOwn s.held a.task) → with_shared a s kept owns ≡ a in
+    subst P (sym e) (λ kept owns. λ i. with_shared a a.shared
+    (Keeps-prop (part_of a) kept a.kept i) (AreOwn-prop a.shared.held a.task owns a.own i))
 
 -- a part whose cells and log entries were taken
 pub emptied-keeps : (a : CodePart) (shared : Shared) (log : List CodeStamped)

@@ -4,13 +4,14 @@ use Rattle.std.specs.Prelude.{◌≡◌, ℕ, cond, List, [], ◌∷◌, drop, l
 use Rattle.std.proofs.Common.{sym, ap, ◌∙◌, refl, subst, arith}
 use Rattle.std.proofs.lemmas.List.{length-replicate}
 use Rattle.sf_base.specs.declared.ids.ResId.{ResId}
+use Rattle.sf_base.specs.HeapStore.{Heap, Splits, Store}
 use Rattle.sf_base.specs.declared.value.Value.TheVariants.{Nil as nil}
 use Rattle.sf_core.specs.Checked.Machine.InOrder.{regions}
 use Rattle.sf_core.specs.Machine.Config.{Frame, runs, Path, Common}
-use Rattle.sf_core.specs.Machine.Next.{next}
-use Rattle.sf_core.specs.Machine.Step.{TaskStep}
+use Rattle.sf_core.specs.Machine.Next.{Next, next}
+use Rattle.sf_core.specs.Machine.Step.{Event, TaskStep}
 use Rattle.sf_core.specs.Machine.Supplies.{has, NextTakes}
-use Rattle.sf_core.specs.Machine.Whole.{running, numbers}
+use Rattle.sf_core.specs.Machine.Whole.{Part as WholePart, Content, running, numbers}
 use Rattle.sf_core.specs.Program.Syntax.{Program}
 use Rattle.sf_foot.specs.Starting.{HasWidth}
 use Rattle.sf_frame.specs.Commons.{common_of, held_of}
@@ -26,7 +27,7 @@ use Rattle.sf_part.specs.declared.stand.Stand.TheVariants.{Runs as runs_frames, 
 use Rattle.sf_part.specs.Of.{AreInOrder, FramesAreOf, StandIsOf, frames_in}
 use Rattle.sf_part.specs.PartView.{IsPartOf, part_of}
 use Rattle.sf_part.specs.Stands.{stand_in}
-use Rattle.sf_part.specs.Steps.{IsPrivate, Private, common_of as part_common}
+use Rattle.sf_part.specs.Steps.{HasInHand, IsPrivate, Private, common_of as part_common}
 use Rattle.sf_part.proofs.Beside.{takes-one}
 use Rattle.sf_part.proofs.Orders.{order-private}
 
@@ -42,6 +43,34 @@ part-common a = λ i. record {
   store = (common_of a.shared).store;
   held = λ r. at-holder (held_of a.shared.held r) a.task (λ holder e. a.own r.0 holder e) i;
 }
+
+-- what two share who have the same cells and slots is the same where they hold the same
+pub same-held : (heap : Heap) (store : Store) {one other : ResId → Option Path} → one ≡ other
+    → ◌≡◌ {A = Common} (record { heap = heap; store = store; held = one })
+    (record { heap = heap; store = store; held = other })
+same-held heap store e = λ i. record { heap = heap; store = store; held = e i }
+
+-- a part with the cells and slots of a content besides has it in hand
+pub in-hand : (a : WholePart) (k : Content) (heap : Heap) (store : Store) → Splits heap a.heap k.heap
+    → Splits store a.store k.store → HasInHand a k (record a { heap = heap; store = store })
+in-hand a k heap store cells slots = record {
+  task = refl;
+  stand = refl;
+  holds = refl;
+  supply = refl;
+  heap = cells;
+  store = slots;
+}
+
+-- a step that takes a unit takes the first, and leaves those that it leaves
+pub takes-first : (event : Event) (what : Next) (a b : Part) {number : ℕ}
+    → numbers a.supply ≡ number ∷ drop 1 (numbers a.supply)
+    → numbers b.supply ≡ drop 1 (numbers a.supply)
+    → NextTakes event what (has (number ∷ numbers b.supply)) (has (numbers b.supply))
+    → NextTakes event what (has (numbers a.supply)) (has (numbers b.supply))
+takes-first event what a b {number = number} units left takes =
+    subst (λ z. NextTakes event what (has z) (has (numbers b.supply)))
+    (sym (units ∙ ap (λ z. number ∷ z) (sym left))) takes
 
 -- a part with a private event next runs frames
 pub made-runs : (p : Program) (s : CodeStand) (frames : List Frame) → stand_in s ≡ running frames

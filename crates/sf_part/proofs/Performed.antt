@@ -8,16 +8,20 @@ use Rattle.std.proofs.lemmas.Bool.Decides.{eqb_tells}
 use Rattle.sf_base.proofs.Elements.{contains-rest}
 use Rattle.sf_base.specs.declared.ids.ResId.{ResId}
 use Rattle.sf_base.specs.declared.limits.TheConstants.{STEPS}
+use Rattle.sf_base.specs.HeapStore.{Store}
 use Rattle.sf_core.specs.Machine.Config.{Path, Common}
 use Rattle.sf_core.specs.Machine.Step.{Event}
-use Rattle.sf_core.specs.Machine.Whole.{Range, numbers}
+use Rattle.sf_core.specs.Machine.Whole.{Range, Stand, numbers, running}
 use Rattle.sf_frame.specs.Commons.{common_of}
 use Rattle.sf_frame.specs.Checked.Effects.{IsSameCommon}
+use Rattle.sf_frame.specs.Checked.Frames.{moved}
 use Rattle.sf_frame.specs.declared.shared.Shared.{Shared}
+use Rattle.sf_frame.specs.declared.stack.Change.{Change}
 use Rattle.sf_part.specs.Checked.KeepsIsProp.{AreOwn}
 use Rattle.sf_part.specs.declared.log.Stamped.{Stamped as CodeStamped}
 use Rattle.sf_part.specs.declared.stand.Stand.{Stand as CodeStand}
 use Rattle.sf_part.specs.Keeps.{IsUnmade, IsWaiting, Keeps}
+use Rattle.sf_part.specs.Of.{frames_in}
 use Rattle.sf_part.specs.Parts.{entry_of, part_with}
 use Rattle.sf_part.specs.Stands.{stand_in}
 use Rattle.sf_part.specs.Timed.{Notes, TimedPart}
@@ -36,6 +40,16 @@ same-common s t h = λ i. record {
   store = λ slot. h.store slot i;
   held = λ r. h.held r i;
 }
+
+-- what is so of the slots of the one is so of the other's
+pub same-store : (P : Store → Type 0) {s t : Common} → IsSameCommon s t → P t.store → P s.store
+same-store P {s} {t} same h = subst (λ (z : Common). P z.store) (sym (same-common s t same)) h
+
+-- how a part stands whose frames were moved
+pub moved-stand : (change : Change) {stand : Stand} {s t : CodeStand} → s ≡ t
+    → stand ≡ running (moved change (frames_in (stand_in s)))
+    → stand ≡ running (moved change (frames_in (stand_in t)))
+moved-stand change is e = e ∙ ap (λ z. running (moved change (frames_in (stand_in z)))) is
 
 -- the part is one where its pieces are
 pub same-part : (task : Path) (stand now : CodeStand) (shared after : Shared) (supply : List Range)

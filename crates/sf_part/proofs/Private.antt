@@ -1,14 +1,14 @@
 -- Private events are steps.
 -- Names: `private-LAW`.
-use Rattle.std.specs.Prelude.{◌≡◌, List, [], ◌∷◌, ◌++◌, map, Some}
+use Rattle.std.specs.Prelude.{List, [], ◌∷◌, ◌++◌, map}
 use Rattle.std.proofs.Common.{true≢false, sym, ◌∙◌, subst}
 use Rattle.sf_base.specs.declared.ids.ResId.{ResId}
 use Rattle.sf_core.specs.Checked.Machine.Laws.{Moves}
-use Rattle.sf_core.specs.Machine.Config.{runs, Config, task_at, put_task}
+use Rattle.sf_core.specs.Machine.Config.{runs, Config}
 use Rattle.sf_core.specs.Machine.Next.{Next, does, leaves, returns, joins, nothing, next}
 use Rattle.sf_core.specs.Machine.Step.{Event}
 use Rattle.sf_core.specs.Machine.Supplies.{has}
-use Rattle.sf_core.specs.Machine.Whole.{Part, Content, numbers, own_stand, stands, IsUnion, Whole}
+use Rattle.sf_core.specs.Machine.Whole.{Part, Content, numbers, own_stand, Whole}
 use Rattle.sf_core.specs.Program.Syntax.{fork, with, Program}
 use Rattle.sf_part.specs.Steps.{IsPrivate, Private, Privates}
 use Rattle.sf_part.specs.Timed.{TimedPart}
@@ -17,7 +17,7 @@ use Rattle.sf_part.proofs.Leads.{Single, leads-along, leads-compose, leads-none,
 use Rattle.sf_part.proofs.Shares.{shares-run}
 use Rattle.sf_part.specs.Checked.Laws.{Leads}
 use Rattle.sf_part.proofs.Order.{whole-focus, whole-unfocus}
-use Rattle.sf_part.proofs.Tasks.{tasks-run, tasks-runs}
+use Rattle.sf_part.proofs.Tasks.{own-task}
 
 -- a private event moves no resource
 private-still : (p : Program) (what : Next) (r : ResId) → IsPrivate p what → Moves p what r → ⊥
@@ -46,18 +46,13 @@ private-step p ev a b others contents c e w =
     (takes-at p ev (next (runs e.frames)) (has (numbers a.part.supply))
     (has (numbers b.part.supply)) e.spends)
     (λ r m. absurd (still r m)) in
-    let there = subst (λ z. task_at z c.tasks ≡ Some (runs e.frames)) (sym e.acts.own)
-    (tasks-runs c.tasks a.part (map own_stand others) e.frames w.tasks e.acts.from_is) in
+    let here = own-task c.tasks a.part (map own_stand others) e.frames e.acts.own w.tasks
+    e.acts.from_is in
     record {
       config = next_config c ev s.after (runs e.kept);
-      step = next-step p ev c (runs e.frames) (runs e.kept) s.after number.used there s.steps;
+      step = next-step p ev c (runs e.frames) (runs e.kept) s.after number.used here.0 s.steps;
       whole = record {
-        tasks = subst (λ z. IsUnion (stands (put_task z (runs e.kept) c.tasks))
-            (own_stand b.part ∷ map own_stand others))
-            (sym e.acts.own)
-            (tasks-run c.tasks a.part b.part (map own_stand others) e.frames e.kept w.tasks
-            e.acts.from_is e.acts.task
-            e.acts.to_is);
+        tasks = here.1 b.part e.kept e.acts.task e.acts.to_is;
         heap = s.beside.heap;
         store = s.beside.store;
         held = s.beside.held;
@@ -69,7 +64,7 @@ private-step p ev a b others contents c e w =
             w.once w.unused
             s.unused;
       };
-      takes = shares-run ev c a.part b.part others e.frames e.kept e.acts.own there e.spends
+      takes = shares-run ev c a.part b.part others e.frames e.kept e.acts.own here.0 e.spends
           e.acts.from_is e.acts.task
           e.acts.to_is;
     }

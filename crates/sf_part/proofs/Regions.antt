@@ -11,11 +11,11 @@ use Rattle.sf_base.proofs.MapSplits.{splits-has_left}
 use Rattle.sf_base.proofs.StoreSplits.{resource-same}
 use Rattle.sf_base.specs.declared.ids.ResId.{ResId}
 use Rattle.sf_core.specs.Checked.Machine.Laws.{HolderChanges, Moves}
-use Rattle.sf_core.specs.Machine.Config.{runs, Path, Common, Config, task_at, put_task}
+use Rattle.sf_core.specs.Machine.Config.{runs, Path, Common, Config}
 use Rattle.sf_core.specs.Machine.Next.{Next, next}
 use Rattle.sf_core.specs.Machine.Step.{Event}
 use Rattle.sf_core.specs.Machine.Supplies.{has, NextTakes}
-use Rattle.sf_core.specs.Machine.Whole.{Part, Content, holders, numbers, own_stand, stands, IsUnion, Whole}
+use Rattle.sf_core.specs.Machine.Whole.{Part, Content, holders, numbers, own_stand, IsUnion, Whole}
 use Rattle.sf_core.specs.Program.Syntax.{Program}
 use Rattle.sf_core.proofs.Machine.Steps.{moved-by_next}
 use Rattle.sf_part.specs.Steps.{common_of, Enters, Exits, HasInHand, IsEntry, IsExit}
@@ -26,7 +26,7 @@ use Rattle.sf_part.proofs.Shares.{shares-run}
 use Rattle.sf_part.specs.Checked.Laws.{Leads}
 use Rattle.sf_part.proofs.Order.{content_heap, content_store, of_resource, of_resource-cons, part_heap, part_store, whole-focus, whole-focus_content, whole-unfocus, whole-unfocus_content}
 use Rattle.sf_part.proofs.Supplies.{one_if}
-use Rattle.sf_part.proofs.Tasks.{tasks-run, tasks-runs}
+use Rattle.sf_part.proofs.Tasks.{own-task}
 use Rattle.sf_part.proofs.Unions.{union-join, union-part, union-second, union-unsecond}
 
 -- Contents of a resource
@@ -131,17 +131,13 @@ entry-step p ev a b k others contents c e w =
     let own = e.acts.own ∙ e.hand.task in
     let from_is = sym e.hand.stand ∙ e.acts.from_is in
     let none : of_resource q contents ≡ 0 = only_one (w.different q) in
-    let there = subst (λ z. task_at z c.tasks ≡ Some (runs e.frames)) (sym own)
-    (tasks-runs c.tasks a.part (map own_stand others) e.frames w.tasks from_is) in
+    let here = own-task c.tasks a.part (map own_stand others) e.frames own w.tasks
+    from_is in
     record {
       config = next_config c ev s.after (runs e.kept);
-      step = next-step p ev c (runs e.frames) (runs e.kept) s.after number.used there s.steps;
+      step = next-step p ev c (runs e.frames) (runs e.kept) s.after number.used here.0 s.steps;
       whole = record {
-        tasks = subst (λ z. IsUnion (stands (put_task z (runs e.kept) c.tasks))
-            (own_stand b.part ∷ map own_stand others))
-            (sym own)
-            (tasks-run c.tasks a.part b.part (map own_stand others) e.frames e.kept w.tasks from_is
-            (e.acts.task ∙ e.hand.task) e.acts.to_is);
+        tasks = here.1 b.part e.kept (e.acts.task ∙ e.hand.task) e.acts.to_is;
         heap = s.beside.heap;
         store = s.beside.store;
         held = s.beside.held;
@@ -157,7 +153,7 @@ entry-step p ev a b k others contents c e w =
             w.once w.unused
             s.unused;
       };
-      takes = shares-run ev c a.part b.part others e.frames e.kept own there e.spends from_is
+      takes = shares-run ev c a.part b.part others e.frames e.kept own here.0 e.spends from_is
           (e.acts.task ∙ e.hand.task) e.acts.to_is;
     }
   where
@@ -199,18 +195,14 @@ exit-step p ev a b k others contents c e w =
     let freed = λ (r : ResId) (m : Moves p what r). s.moved r m ∙ (changes r m).1 in
     let none = count-held q ev.task c.common contents (sym (hands q moved) ∙ (changes q moved).0)
     w.free in
-    let there = subst (λ z. task_at z c.tasks ≡ Some (runs e.frames)) (sym e.acts.own)
-    (tasks-runs c.tasks a.part (map own_stand others) e.frames w.tasks e.acts.from_is) in
+    let here = own-task c.tasks a.part (map own_stand others) e.frames e.acts.own w.tasks
+    e.acts.from_is in
     record {
       config = next_config c ev s.after (runs e.kept);
-      step = next-step p ev c (runs e.frames) (runs e.kept) s.after number.used there s.steps;
+      step = next-step p ev c (runs e.frames) (runs e.kept) s.after number.used here.0 s.steps;
       whole = record {
-        tasks = subst (λ z. IsUnion (stands (put_task z (runs e.kept) c.tasks))
-            (own_stand b.part ∷ map own_stand others))
-            (sym e.acts.own)
-            (tasks-run c.tasks a.part b.part (map own_stand others) e.frames e.kept w.tasks
-            e.acts.from_is
-            (sym e.hand.task ∙ e.acts.task) (sym e.hand.stand ∙ e.acts.to_is));
+        tasks = here.1 b.part e.kept (sym e.hand.task ∙ e.acts.task)
+            (sym e.hand.stand ∙ e.acts.to_is);
         heap = union-unsecond b.part.heap (map part_heap others) k.content.heap
             (map content_heap contents) s.after.heap
             (union-part s.after.heap e.both.heap b.part.heap k.content.heap
@@ -228,7 +220,7 @@ exit-step p ev a b k others contents c e w =
             w.once w.unused
             s.unused;
       };
-      takes = shares-run ev c a.part b.part others e.frames e.kept e.acts.own there
+      takes = shares-run ev c a.part b.part others e.frames e.kept e.acts.own here.0
           (subst (λ z. NextTakes ev what (has (numbers a.part.supply)) (has (numbers z)))
           e.hand.supply e.spends)
           e.acts.from_is (sym e.hand.task ∙ e.acts.task) (sym e.hand.stand ∙ e.acts.to_is);

@@ -9,7 +9,7 @@ use Rattle.std.proofs.lemmas.Bool.Decides.{eqb_tells}
 use Rattle.sf_base.proofs.MapSplits.{splits-has_left, splits-lacks_both}
 use Rattle.sf_base.specs.declared.ids.ResId.{ResId}
 use Rattle.sf_core.specs.Checked.Machine.Laws.{HolderChanges, Moves}
-use Rattle.sf_core.specs.Machine.Config.{runs, Path, Common, Config, task_at, put_task}
+use Rattle.sf_core.specs.Machine.Config.{runs, Path, Common, Config}
 use Rattle.sf_core.specs.Machine.Next.{Next, does, leaves, returns, joins, nothing, next}
 use Rattle.sf_core.specs.Machine.Step.{Event}
 use Rattle.sf_core.specs.Machine.Supplies.{has, NextTakes}
@@ -25,7 +25,7 @@ use Rattle.sf_part.specs.Checked.Laws.{Leads}
 use Rattle.sf_part.proofs.Order.{content_heap, content_store, of_resource, of_resource-cons, part_heap, part_store, whole-focus, whole-unfocus}
 use Rattle.sf_part.proofs.Regions.{count-held, hand-holders}
 use Rattle.sf_part.proofs.Supplies.{one_if}
-use Rattle.sf_part.proofs.Tasks.{tasks-run, tasks-runs}
+use Rattle.sf_part.proofs.Tasks.{own-task}
 use Rattle.sf_part.proofs.Unions.{union-focus_tail, union-part, union-unsecond}
 
 -- What is handed out
@@ -84,27 +84,28 @@ out-supply all rest [] h = ap (λ (z : Part). z.supply) (sym h)
 out-supply all rest (k ∷ out) (less, h, hs) = h.supply ∙ out-supply less rest out hs
 
 -- Contents in the order of their resources
+-- one that is of another resource counts for none
+other-resource : (r : ResId) (k : TimedContent) (out : List TimedContent)
+    → (k.content.resource.0 ≡ r.0 → ⊥) → of_resource r (contents_of out) ≡ 0
+    → of_resource r (contents_of (k ∷ out)) ≡ 0
+other-resource r k out other h =
+    let s = of_resource-cons r k.content (contents_of out) in
+    elim (eqb_tells k.content.resource.0 r.0) [
+      | inl t ↦ absurd (other t.1)
+      | inr t ↦ let o : one_if (k.content.resource.0 == r.0) ≡ 0 = ap one_if t.0 in omega arith
+    ]
+
 from-low : (r : ResId) (n : ℕ) (out : List TimedContent) → AreFrom n out → r.0 < n
     → of_resource r (contents_of out) ≡ 0
 from-low r n [] a l = refl
 from-low r n (k ∷ out) (e, a) l =
-    let s = of_resource-cons r k.content (contents_of out) in
-    let h = from-low r (suc n) out a (omega arith) in
-    elim (eqb_tells k.content.resource.0 r.0) [
-      | inl t ↦ absurd (let same : k.content.resource.0 ≡ r.0 = t.1 in omega arith)
-      | inr t ↦ let o : one_if (k.content.resource.0 == r.0) ≡ 0 = ap one_if t.0 in omega arith
-    ]
+    other-resource r k out (λ same. omega arith) (from-low r (suc n) out a (omega arith))
 
 from-high : (r : ResId) (n : ℕ) (out : List TimedContent) → AreFrom n out → n + length out ≤ r.0
     → of_resource r (contents_of out) ≡ 0
 from-high r n [] a l = refl
 from-high r n (k ∷ out) (e, a) l =
-    let s = of_resource-cons r k.content (contents_of out) in
-    let h = from-high r (suc n) out a (omega arith) in
-    elim (eqb_tells k.content.resource.0 r.0) [
-      | inl t ↦ absurd (let same : k.content.resource.0 ≡ r.0 = t.1 in omega arith)
-      | inr t ↦ let o : one_if (k.content.resource.0 == r.0) ≡ 0 = ap one_if t.0 in omega arith
-    ]
+    other-resource r k out (λ same. omega arith) (from-high r (suc n) out a (omega arith))
 
 pub from-once : (r : ResId) (n : ℕ) (out : List TimedContent) → AreFrom n out
     → of_resource r (contents_of out) ≤ 1
@@ -174,20 +175,15 @@ settle-step p ev a b out others contents c e known w =
     s.moved r m ∙ settle-frees p what ev.task (holders a.part r) (holders e.all r) e.settling
     (moved-by_next p ev (common_of a.part) (common_of e.all) what (runs e.kept) e.acts.steps r m))
     in
-    let there = subst (λ z. task_at z c.tasks ≡ Some (runs e.frames)) (sym e.acts.own)
-    (tasks-runs c.tasks a.part (map own_stand others) e.frames w.tasks e.acts.from_is) in
+    let here = own-task c.tasks a.part (map own_stand others) e.frames e.acts.own w.tasks
+    e.acts.from_is in
     record {
       config = next_config c ev s.after (runs e.kept);
-      step = next-step p ev c (runs e.frames) (runs e.kept) s.after number.used there s.steps;
+      step = next-step p ev c (runs e.frames) (runs e.kept) s.after number.used here.0 s.steps;
       whole = record {
-        tasks = subst
-            (λ z. IsUnion (stands (put_task z (runs e.kept) c.tasks))
-            (own_stand b.part ∷ map own_stand others))
-            (sym e.acts.own)
-            (tasks-run c.tasks a.part b.part (map own_stand others) e.frames e.kept w.tasks
-            e.acts.from_is
+        tasks = here.1 b.part e.kept
             (sym (out-task e.all b.part out e.out) ∙ e.acts.task)
-            (sym (out-stand e.all b.part out e.out) ∙ e.acts.to_is));
+            (sym (out-stand e.all b.part out e.out) ∙ e.acts.to_is);
         heap = beside.heap;
         store = beside.store;
         held = beside.held;
@@ -199,7 +195,7 @@ settle-step p ev a b out others contents c e known w =
             w.once w.unused
             s.unused;
       };
-      takes = shares-run ev c a.part b.part others e.frames e.kept e.acts.own there
+      takes = shares-run ev c a.part b.part others e.frames e.kept e.acts.own here.0
           (subst (λ z. NextTakes ev what (has (numbers a.part.supply)) (has (numbers z)))
           (out-supply e.all b.part out e.out) e.spends) e.acts.from_is
           (sym (out-task e.all b.part out e.out) ∙ e.acts.task)

@@ -120,6 +120,19 @@ tasks-run tree a b more frames kept w e task stand =
     (sym (stands-put a.task (runs kept) tree))
     (trees-leaf (tree_of tree) a.task (running frames) (running kept) more u there))
 
+-- the same of the task of an event, which is the part's: it is in the tree, and may go on running
+pub own-task : {path : Path} (tree : Task) (a : Part) (more : List (Map Path Stand)) (frames : List Frame)
+    → path ≡ a.task → IsUnion (stands tree) (own_stand a ∷ more) → a.stand ≡ running frames
+    → (task_at path tree ≡ Some (runs frames))
+    × ((b : Part) (kept : List Frame) → b.task ≡ a.task → b.stand ≡ running kept
+    → IsUnion (stands (put_task path (runs kept) tree)) (own_stand b ∷ more))
+own-task tree a more frames own w e = (
+  subst (λ z. task_at z tree ≡ Some (runs frames)) (sym own) (tasks-runs tree a more frames w e),
+  λ b kept task stand. subst
+      (λ z. IsUnion (stands (put_task z (runs kept) tree)) (own_stand b ∷ more)) (sym own)
+      (tasks-run tree a b more frames kept w e task stand),
+)
+
 -- a part's task that runs comes to wait for those of two others
 pub tasks-fork : (tree : Task) (a b one two : Part) (more : List (Map Path Stand))
     (frames kept ones twos : List Frame)

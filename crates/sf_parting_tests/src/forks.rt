@@ -7,10 +7,11 @@ use sf_base::{ResId, TaskPath, Turn, Value};
 use sf_files::fitted;
 use sf_frame::Spot;
 use sf_part::{Local, Stamped};
-use sf_turns::ends::{End, closed};
+use sf_turns::ends::closed;
 use sf_turns::forks::{first_other_of, fork_at, join_at};
 use sf_turns::orders::run_in_order;
 use sf_turns::turns::{Comes, sit};
+use std::alloc::{AllocError, Global};
 use std::test::Fail;
 
 const MM: ResId = ResId(0);
@@ -21,20 +22,44 @@ const LEFT: &[Turn] = &[Turn::Left];
 
 const RIGHT: &[Turn] = &[Turn::Right];
 
-/// An entry of a log: the stamp, the task's turns, the number.
-type Row<'t> = (u64, &'t [Turn], u64);
+/// Entries of a log that follow each other: the stamp of the first, the turns of their task, the number
+/// of the first, and how many there are. Stamps and numbers go up by one.
+type Row<'t> = (u64, &'t [Turn], u64, u64);
+
+/// Appends the entries of a row, each as a row of its own.
+fn push_entries<'t>(all: &mut Vec<Row<'t>>, row: Row<'t>) -> Result<(), AllocError> {
+    let (stamp, task, unit, count) = row;
+    for i in 0..count {
+        all.push((stamp.saturating_add(i), task, unit.saturating_add(i), 1))?;
+    }
+    Ok(())
+}
+
+/// The entries of these rows, each as a row of its own.
+fn single<'t>(alloc: Global, rows: &[Row<'t>]) -> Result<Vec<Row<'t>>, AllocError> {
+    let mut all = Vec::new(alloc);
+    for row in rows {
+        push_entries(&mut all, *row)?;
+    }
+    Ok(all)
+}
 
 /// The number of the first entry of a log that isn't what is said, or where only one of the two ends.
-fn first_other_entry(log: &[Stamped], rows: &[Row<'_>]) -> Option<usize> {
-    for (number, (entry, (stamp, task, unit))) in log.iter().zip(rows).enumerate() {
+fn first_other_entry(
+    alloc: Global,
+    log: &[Stamped],
+    rows: &[Row<'_>],
+) -> Result<Option<usize>, AllocError> {
+    let all = single(alloc, rows)?;
+    for (number, (entry, (stamp, task, unit, _))) in log.iter().zip(&all).enumerate() {
         if entry.stamp != *stamp || entry.number != *unit || entry.task.turns() != *task {
-            return Some(number);
+            return Ok(Some(number));
         }
     }
-    if log.len() == rows.len() {
-        None
+    if log.len() == all.len() {
+        Ok(None)
     } else {
-        Some(log.len().min(rows.len()))
+        Ok(Some(log.len().min(all.len())))
     }
 }
 
@@ -59,20 +84,11 @@ const ONE_AFTER_THE_OTHER: [(Turn, Comes); 15] = [
 
 /// The log of that run, with 100 units from 4 on: the right child's stamps go on from the left one's
 /// exit.
-const ROWS_OF_BOTH: [Row<'static>; 13] = [
-    (1, ENTRY, 4),
-    (2, LEFT, 5),
-    (3, LEFT, 6),
-    (4, LEFT, 7),
-    (5, LEFT, 8),
-    (6, LEFT, 9),
-    (7, LEFT, 10),
-    (7, RIGHT, 54),
-    (8, RIGHT, 55),
-    (9, RIGHT, 56),
-    (10, RIGHT, 57),
-    (11, RIGHT, 58),
-    (12, ENTRY, 11),
+const ROWS_OF_BOTH: [Row<'static>; 4] = [
+    (1, ENTRY, 4, 1),
+    (2, LEFT, 5, 6),
+    (7, RIGHT, 54, 5),
+    (12, ENTRY, 11, 1),
 ];
 
 #[test]
@@ -85,21 +101,16 @@ fn a_child_enters_with_what_the_other_left(rt: HostRuntime) -> Result<(), Fail> 
     let (at, other) = first_other_of(at, &ONE_AFTER_THE_OTHER)?;
     assert_eq!(rt; other, None);
     let at = join_at(at)?.expect(&rt, "a join");
-    let End {
-        vars,
-        heap,
-        log,
-        mut contents,
-    } = closed(at)?.expect(&rt, "an end");
-    assert!(rt; vars.own.as_slice() == [Value::Loc(2), Value::Loc(1)].as_slice());
-    assert_eq!(rt; heap.len(), 1);
-    assert_eq!(rt; field(&heap, 2, 1), Some(Value::Loc(3)));
+    let mut end = closed(at)?.expect(&rt, "an end");
+    assert!(rt; end.vars.own.as_slice() == [Value::Loc(2), Value::Loc(1)].as_slice());
+    assert_eq!(rt; end.heap.len(), 1);
+    assert_eq!(rt; field(&end.heap, 2, 1), Some(Value::Loc(3)));
     assert_eq!(rt;
-        first_other_entry(log.entries.as_slice(), &ROWS_OF_BOTH),
+        first_other_entry(alloc, end.log.entries.as_slice(), &ROWS_OF_BOTH)?,
         None
     );
-    assert_eq!(rt; contents.len(), 1);
-    let content = contents.pop().expect(&rt, "a content");
+    assert_eq!(rt; end.contents.len(), 1);
+    let content = end.contents.pop().expect(&rt, "a content");
     let (store, left) = content.into_parts();
     assert_eq!(rt; store.find(Spot::Shared(MM, 0)), Some(Value::Loc(1)));
     assert_eq!(rt; left.len(), 2);
@@ -128,35 +139,20 @@ const GIVENS_OF_TREE: [(&[Turn], u64); 7] = [
 
 /// Its log, with units from 4 on: of each task the test, two look-ups and the fork, its children's,
 /// the join, the disposal and the return; a task at nil has a test and a return alone.
-const ROWS_OF_TREE: [Row<'static>; 28] = [
-    (1, ENTRY, 4),
-    (2, ENTRY, 5),
-    (3, ENTRY, 6),
-    (4, ENTRY, 7),
-    (5, LEFT, 8),
-    (6, LEFT, 9),
-    (7, LEFT, 10),
-    (8, LEFT, 11),
-    (9, LEFT_LEFT, 12),
-    (10, LEFT_LEFT, 13),
-    (9, LEFT_RIGHT, 16),
-    (10, LEFT_RIGHT, 17),
-    (11, LEFT, 14),
-    (12, LEFT, 15),
-    (13, LEFT, 18),
-    (5, RIGHT, 20),
-    (6, RIGHT, 21),
-    (7, RIGHT, 22),
-    (8, RIGHT, 23),
-    (9, RIGHT_LEFT, 24),
-    (10, RIGHT_LEFT, 25),
-    (9, RIGHT_RIGHT, 28),
-    (10, RIGHT_RIGHT, 29),
-    (11, RIGHT, 26),
-    (12, RIGHT, 27),
-    (13, RIGHT, 30),
-    (14, ENTRY, 19),
-    (15, ENTRY, 31),
+const ROWS_OF_TREE: [Row<'static>; 13] = [
+    (1, ENTRY, 4, 4),
+    (5, LEFT, 8, 4),
+    (9, LEFT_LEFT, 12, 2),
+    (9, LEFT_RIGHT, 16, 2),
+    (11, LEFT, 14, 2),
+    (13, LEFT, 18, 1),
+    (5, RIGHT, 20, 4),
+    (9, RIGHT_LEFT, 24, 2),
+    (9, RIGHT_RIGHT, 28, 2),
+    (11, RIGHT, 26, 2),
+    (13, RIGHT, 30, 1),
+    (14, ENTRY, 19, 1),
+    (15, ENTRY, 31, 1),
 ];
 
 /// Whether the tasks are these, with as many units as is said.
@@ -179,7 +175,7 @@ fn the_units_and_stamps_of_a_tree_are_those_worked_out(rt: HostRuntime) -> Resul
     assert!(rt; end.vars.own.as_slice() == [Value::Loc(1)].as_slice());
     assert_eq!(rt; end.heap.len(), 0);
     assert_eq!(rt;
-        first_other_entry(end.log.entries.as_slice(), &ROWS_OF_TREE),
+        first_other_entry(alloc, end.log.entries.as_slice(), &ROWS_OF_TREE)?,
         None
     );
     Ok(())

@@ -31,20 +31,16 @@ const CELLS: u64 = 300;
 /// The most turns of a task: far more than its events and the tries that it makes in vain.
 const MOST: u64 = 100_000_000;
 
-/// A child of a parallel call, with the table at which it meets the other one.
+/// The program, the table at which a child of a parallel call meets the other one, and the child.
 #[derive(Drop)]
-struct Child<'c, 'p> {
-    p: &'p Arranged,
-    regions: &'c Regions<'p>,
-    task: Task<'p>,
-}
+struct Child<'c, 'p>(&'p Arranged, &'c Regions<'p>, Task<'p>);
 
 /// Lets a child take its turns, until there is no further step of it alone.
 fn halted<'c, 'p>(child: Child<'c, 'p>) -> Result<Task<'p>, AllocError>
-    requires { RunsAt child.p.now child.regions.now child.task }
-    ensures { IfOk result (HasGone child.entry.p.now child.entry.regions.now child.entry.task) }
+    requires { RunsAt child.0.now child.1.now child.2 }
+    ensures { IfOk result (HasGone child.entry.0.now child.entry.1.now child.entry.2) }
 {
-    let Child { p, regions, task } = child;
+    let Child(p, regions, task) = child;
     to_halt(task, p, regions, MOST)
 }
 
@@ -72,27 +68,17 @@ fn beside<'c, 'p, R: Threads + Sync>(
     arranged_programs_are_shared();
     tables_are_shared();
     tasks_are_sent();
-    let one = Child {
-        p,
-        regions,
-        task: left,
-    };
-    let two = Child {
-        p,
-        regions,
-        task: right,
-    };
+    let one = Child(p, regions, left);
+    let two = Child(p, regions, right);
     let (left, right) = join(
         rt,
         move ||
-            requires { RunsAt one.p.now one.regions.now one.task }
-            ensures { IfOk result (HasGone one.entry.p.now one.entry.regions.now
-                one.entry.task) }
+            requires { RunsAt one.0.now one.1.now one.2 }
+            ensures { IfOk result (HasGone one.entry.0.now one.entry.1.now one.entry.2) }
         { halted(one) },
         move ||
-            requires { RunsAt two.p.now two.regions.now two.task }
-            ensures { IfOk result (HasGone two.entry.p.now two.entry.regions.now
-                two.entry.task) }
+            requires { RunsAt two.0.now two.1.now two.2 }
+            ensures { IfOk result (HasGone two.entry.0.now two.entry.1.now two.entry.2) }
         { halted(two) },
     );
     let left = seated(left);

@@ -42,23 +42,18 @@ fn what_is_left_is_got_at_the_next_entry(rt: HostRuntime) -> Result<(), Fail> {
     let at = sit(alloc, &p, "two", text, 1_000, true)?.expect(&rt, "a start");
     let (at, other) = first_other(at, &TAKEN_TWICE)?;
     assert_eq!(rt; other, None);
-    let End {
-        vars,
-        heap,
-        log,
-        mut contents,
-    } = closed(at)?.expect(&rt, "an end");
-    assert!(rt; vars.own.as_slice() == [Value::Loc(1), Value::Loc(2)].as_slice());
-    assert_eq!(rt; heap.len(), 2);
-    assert_eq!(rt; log.entries.len(), 14);
+    let mut end = closed(at)?.expect(&rt, "an end");
+    assert!(rt; end.vars.own.as_slice() == [Value::Loc(1), Value::Loc(2)].as_slice());
+    assert_eq!(rt; end.heap.len(), 2);
+    assert_eq!(rt; end.log.entries.len(), 14);
     let last = Stamped {
         stamp: 14,
         task: TaskPath::entry(),
         number: 17,
     };
-    assert_eq!(rt; log.entries.as_slice().last().copied(), Some(last));
-    assert_eq!(rt; contents.len(), 1);
-    let content = contents.pop().expect(&rt, "a content");
+    assert_eq!(rt; end.log.entries.as_slice().last().copied(), Some(last));
+    assert_eq!(rt; end.contents.len(), 1);
+    let content = end.contents.pop().expect(&rt, "a content");
     assert_eq!(rt; content.resource(), MM);
     let (store, left) = content.into_parts();
     assert_eq!(rt; store.find(Spot::Shared(MM, 0)), Some(Value::Loc(3)));

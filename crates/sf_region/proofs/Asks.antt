@@ -50,6 +50,23 @@ same-word [] i less = refl
 same-word (w ∷ ws) zero less = refl
 same-word (w ∷ ws) (suc i) less = ap (λ z. w ∷ z) (same-word ws i (omega arith))
 
+-- a load of word 0 by a seat that goes on as it is keeps the rule: what it tells is shown of where it holds
+pub loads : (about : Begun) (slots id : ℕ) (me : Me Slot View) (tells : ℕ → Me Slot View → Type 0)
+    → ((s : State Slot View) → Law about s → get_elem? s.views id ≡ some me.0
+    → tells (slice_index s.words 0) me)
+    → Allows (Law about) slots id me 0 (λ n. n) tells
+loads about slots id me tells told s law wide at small = (
+  me.0,
+  keeps,
+  tt,
+  subst (λ (st : State Slot View). Law about st) (λ i. record {
+    words = sym (same-word s.words 0 (let z = law.rule.wide in omega arith)) i;
+    homes = s.homes;
+    views = sym (set_again s.views id me.0 at) i;
+  }) law,
+  told s law at,
+)
+
 -- What the rule says of one seat
 module _ (laws : PartLaws) (about : Begun) (marks : List Mark) (s : State Slot View) (q : Rule about marks s) (id : ℕ)
     (v : View) (at : get_elem? s.views id ≡ some v) (live : v.live ≡ true) where
@@ -384,21 +401,10 @@ module _ (laws : PartLaws) (about : Begun) (marks : List Mark) (s : State Slot V
 
 pub looks-word : PartLaws → (about : Begun) (slots id : ℕ) (me : Me Slot View) → me.0.live ≡ true
     → Allows (Law about) slots id me 0 (λ n. n) (λ _ n. looks me n)
-looks-word laws b slots id me live s law wide at small =
-    let v : View = me.0 in (
-      v,
-      keeps,
-      tt,
-      subst (λ (st : State Slot View). Law b st) (λ i. record {
-        words = sym (same-word s.words 0 (let z = law.rule.wide in omega arith)) i;
-        homes = s.homes;
-        views = sym (set_again s.views id v at) i;
-      }) law,
-      (
-        refl,
-        λ one two kids l r. separate laws b law.marks s law.rule id v at live one two kids l r,
-      ),
-    )
+looks-word laws b slots id me live = loads b slots id me (λ _ n. looks me n) (λ s law at. (
+  refl,
+  λ one two kids l r. separate laws b law.marks s law.rule id me.0 at live one two kids l r,
+))
 
 -- the seat of the first child is split off
 pub splits-seat : PartLaws → (about : Begun) (id : ℕ) (v : View) (k : Part) (ks : List Part)

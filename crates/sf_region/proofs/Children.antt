@@ -5,13 +5,12 @@ use Rattle.std.specs.Prelude.{◌≡◌, ◌≢◌, ◌⊎◌, ◌+◌, ◌<◌,
 use Rattle.std.specs.List.{sum_by}
 use Rattle.std.proofs.Common.{sym, ap, ◌∙◌, subst, inl, inr, ⊎_elim, arith, append_assoc}
 use Rattle.std.proofs.lemmas.List.{map-append, length-append}
-use Rattle.std.proofs.lemmas.List.Elements.{Contains-push_cases}
 use Rattle.std.proofs.lemmas.List.Sums.{sum_by-append}
 use Rattle.std.proofs.lemmas.Option.{same_Some}
 use Rattle.sf_base.specs.declared.ids.ResId.{ResId}
 use Rattle.sf_base.specs.declared.path.Turn.{Turn}
 use Rattle.sf_base.specs.declared.path.Turn.TheVariants.{Left as left, Right as right}
-use Rattle.sf_core.specs.Machine.Config.{Path, runs, waits, Config, task_at}
+use Rattle.sf_core.specs.Machine.Config.{Frame, Path, runs, waits, Config, task_at}
 use Rattle.sf_core.specs.Machine.Next.{next}
 use Rattle.sf_core.specs.Machine.Step.{Step}
 use Rattle.sf_core.specs.Machine.Whole.{numbers, waiting}
@@ -20,7 +19,7 @@ use Rattle.sf_part.specs.Checked.Laws.{ForksAreSteps, JoinsAreSteps, Leads}
 use Rattle.sf_part.specs.Checked.LawsOfWhole.{WaitingPartsWait}
 use Rattle.sf_part.specs.declared.content.Content.{Content}
 use Rattle.sf_part.specs.Keeps.{IsWaiting}
-use Rattle.sf_part.specs.Steps.{Forks, Joins}
+use Rattle.sf_part.specs.Steps.{Begins, Forks, IsChild as IsChildPart, Joins}
 use Rattle.sf_part.specs.Timed.{Stamped, TimedPart}
 use Rattle.sf_region.specs.Checked.PartLaws.{PartLaws}
 use Rattle.sf_region.proofs.Insides.{fork-inside, join-inside}
@@ -28,7 +27,7 @@ use Rattle.sf_region.proofs.Lists.{has-focus, has-middle, has-unfocus, sum-focus
 use Rattle.sf_region.proofs.Runs.{history-more}
 use Rattle.sf_region.proofs.Told.{Told, alone, childless, kind-on, noted-sum, whole-at}
 use Rattle.sf_region.proofs.Units.{takes-unit}
-use Rattle.sf_region.proofs.Turns.{Gone, Made, Turns, child-other, path-or, turn-more}
+use Rattle.sf_region.proofs.Turns.{Gone, Made, Turns, child-other, free-more, path-or, turn-more}
 use Rattle.sf_region.specs.declared.views.Begun.{Begun}
 use Rattle.sf_region.specs.Marks.{forking, joining, Mark, IsKind}
 use Rattle.sf_region.specs.Rule.{untimed, present}
@@ -98,6 +97,18 @@ module _ (laws : PartLaws) (b : Begun) (marks : List Mark) (m : Mark) (before mo
       (subst (λ z. IsChild x.part.task z) (sym f) c))
       (has-focus before more x o h)
 
+  -- a child is made by the fork
+  fork-made : (turn : Turn) (frames : List Frame) (q : TimedPart) → IsChildPart y.part turn q.part
+      → Begins y frames q → Made gs x y q
+  fork-made turn frames q child begins = record {
+    child = fork-child turn q child.task;
+    clock = begins.clock;
+    keeps = begins.keeps;
+    runs = λ w. absurd (subst IsWaiting begins.stand w);
+    free = λ r. ap (λ z. z r) child.holds;
+    new = fork-new q.part.task (fork-child turn q child.task);
+  }
+
   fork-turns : Turns gs hs x y
   fork-turns = record {
     was = has-middle before more x;
@@ -108,23 +119,11 @@ module _ (laws : PartLaws) (b : Begun) (marks : List Mark) (m : Mark) (before mo
     idle = λ w. e.none_left;
     after = λ q h. ⊎_elim (λ i. inl i)
         (λ i. ⊎_elim
-        (λ (f : one ≡ q). inr (inr (subst (λ (z : TimedPart). Made gs x y z) f (record {
-          child = fork-child left one e.children.left_one.task;
-          clock = e.left_begins.clock;
-          keeps = e.left_begins.keeps;
-          runs = λ w. absurd (subst IsWaiting e.left_begins.stand w);
-          free = λ r. ap (λ z. z r) e.children.left_one.holds;
-          new = fork-new one.part.task (fork-child left one e.children.left_one.task);
-        }))))
+        (λ (f : one ≡ q). inr (inr (subst (λ (z : TimedPart). Made gs x y z) f
+        (fork-made left e.left_frames one e.children.left_one e.left_begins))))
         (λ j. ⊎_elim
-        (λ (f : two ≡ q). inr (inr (subst (λ (z : TimedPart). Made gs x y z) f (record {
-          child = fork-child right two e.children.right_one.task;
-          clock = e.right_begins.clock;
-          keeps = e.right_begins.keeps;
-          runs = λ w. absurd (subst IsWaiting e.right_begins.stand w);
-          free = λ r. ap (λ z. z r) e.children.right_one.holds;
-          new = fork-new two.part.task (fork-child right two e.children.right_one.task);
-        }))))
+        (λ (f : two ≡ q). inr (inr (subst (λ (z : TimedPart). Made gs x y z) f
+        (fork-made right e.right_frames two e.children.right_one e.right_begins))))
         (λ k. inr (inl (record {
           there = has-unfocus before more x q k;
           apart = alone laws b marks m before more x y contents told q k;
@@ -190,9 +189,7 @@ module _ (laws : PartLaws) (b : Begun) (marks : List Mark) (m : Mark) (before mo
             (λ k r h t there. let z = st.held k r x h t (has-middle before more x)
             (sym (inside.1 r) ∙ there) in omega arith)
             (λ r q s t there. none r t)
-            (λ k r c h t there. ⊎_elim (λ old. st.free k r c old t there)
-            (λ (f : m ≡ k). absurd (none r (subst (λ (z : Mark). Touches r z.kind) (sym f) t)))
-            (Contains-push_cases marks m k h))
+            (free-more m st none)
             (let z = st.clocks x (has-middle before more x) in omega arith)
             (λ r c there. inl (st.stamps r c there)) fork-units fork-logs;
       }
@@ -378,9 +375,7 @@ module _ (laws : PartLaws) (b : Begun) (marks : List Mark) (m : Mark) (before mo
             (λ k r h t there. let z = st.held k r x h t mine (sym (inside.1 r) ∙ there) in
             omega arith)
             (λ r q s t there. none r t)
-            (λ k r c h t there. ⊎_elim (λ old. st.free k r c old t there)
-            (λ (f : m ≡ k). absurd (none r (subst (λ (z : Mark). Touches r z.kind) (sym f) t)))
-            (Contains-push_cases marks m k h))
+            (free-more m st none)
             (let z = st.clocks x mine in
             let u = st.clocks one (second-three before more x one two) in
             let v = st.clocks two (third-three before more x one two) in omega arith)

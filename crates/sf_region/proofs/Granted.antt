@@ -6,6 +6,7 @@ use Rattle.std.specs.Option.{option_map}
 use Rattle.std.proofs.Common.{sym, ap, ◌∙◌, refl, subst, inl, inr, ⊎_elim, append_assoc}
 use Rattle.std.proofs.lemmas.List.{map-append}
 use Rattle.std.proofs.lemmas.Option.{none-some, same_Some}
+use Rattle.sf_base.specs.declared.path.Turn.{Turn}
 use Rattle.sf_base.specs.declared.path.Turn.TheVariants.{Left as left_turn, Right as right_turn}
 use Rattle.sf_base.specs.HeapStore.{Map}
 use Rattle.sf_core.specs.Machine.Config.{Frame, Path, Config}
@@ -15,7 +16,7 @@ use Rattle.sf_core.specs.Machine.Whole.{running, Part as WholePart, numbers, sam
 use Rattle.sf_core.specs.Program.Syntax.{Program}
 use Rattle.sf_part.proofs.Trees.{entry-here, path-same}
 use Rattle.sf_part.specs.declared.content.Content.{Content}
-use Rattle.sf_part.specs.Steps.{Forks, Joins}
+use Rattle.sf_part.specs.Steps.{Begins, Forks, IsChild as IsChildPart, Joins}
 use Rattle.sf_part.specs.Supplied.{units, lent_out, share_of, shares, share_in, own_share, Supplied}
 use Rattle.sf_part.specs.Timed.{TimedPart}
 use Rattle.sf_region.specs.Checked.PartLaws.{PartLaws}
@@ -307,25 +308,22 @@ module _ (laws : PartLaws) (b : Begun) (before after : List TimedPart)
       → o.part.task ≡ path → ⊥ = λ path child o k. fork-new laws b marks m before after a.part
       c.part one two (placed a.hand base) told_alone kind stamp e path child o
       (subst (λ (z : List TimedPart). Contains (before ++ a.part ∷ (z ++ after)) o) none k) in
+      let newly : (turn : Turn) (frames : List Frame) (o : TimedPart)
+      → IsChildPart c.part.part turn o.part → Begins c.part frames o → IsNew olds o =
+      λ turn frames o child begins. record {
+        none = new o.part.task (fork-child laws b marks m before after a.part c.part one two
+            (placed a.hand base) told_alone kind stamp e turn o child.task);
+        frames = frames;
+        stand = begins.stand;
+        given = begins.given;
+      } in
       ⊎_elim (λ f. inl (own task e.notes.given q f))
       (λ i. ⊎_elim
-      (λ (f : one ≡ q). inr (subst (λ (z : TimedPart). IsNew olds z) f (record {
-        none = new one.part.task (fork-child laws b marks m before after a.part c.part one two
-            (placed a.hand base) told_alone kind stamp e left_turn one
-            e.children.left_one.task);
-        frames = e.left_frames;
-        stand = e.left_begins.stand;
-        given = e.left_begins.given;
-      })))
+      (λ (f : one ≡ q). inr (subst (λ (z : TimedPart). IsNew olds z) f
+      (newly left_turn e.left_frames one e.children.left_one e.left_begins)))
       (λ j. ⊎_elim
-      (λ (f : two ≡ q). inr (subst (λ (z : TimedPart). IsNew olds z) f (record {
-        none = new two.part.task (fork-child laws b marks m before after a.part c.part one two
-            (placed a.hand base) told_alone kind stamp e right_turn two
-            e.children.right_one.task);
-        frames = e.right_frames;
-        stand = e.right_begins.stand;
-        given = e.right_begins.given;
-      })))
+      (λ (f : two ≡ q). inr (subst (λ (z : TimedPart). IsNew olds z) f
+      (newly right_turn e.right_frames two e.children.right_one e.right_begins)))
       (λ k. inl (still q (subst
       (λ (z : List TimedPart). Contains (before ++ a.part ∷ (z ++ after)) q)
       (sym none) (has-unfocus before after a.part q k)))) j) i)

@@ -280,41 +280,39 @@ one_if b = cond b 1 0
 cond-bool : (b c : Bool) → b ≡ c → one_if b ≡ one_if c
 cond-bool b c e = ap one_if e
 
-pub entry-tidy : (p : Program) (ev : Event) (a b : TimedPart) (k : TimedContent)
-    → Enters p ev a k b → IsTidy a → IsTidy b
-entry-tidy p ev a b k e h r =
-    let q = k.content.resource in
-    let i = entry-inside p ev a b k e in
-    let x = h r in
-    let y : times r.0 (entered b.part.stand) ≡ times r.0 (q.0 ∷ entered a.part.stand) =
-    ap (times r.0) i.0 in
-    let z = times-cons r.0 q.0 (entered a.part.stand) in
+-- a part that is inside of one region more, and holds its resource besides, is one further in both counts
+one-further : (out into : TimedPart) (q r : ResId)
+    → entered into.part.stand ≡ q.0 ∷ entered out.part.stand
+    → out.part.holds q ≡ false → into.part.holds q ≡ true
+    → (r.0 ≢ q.0 → into.part.holds r ≡ out.part.holds r)
+    → times r.0 (entered into.part.stand) + one_if (out.part.holds r)
+    ≡ times r.0 (entered out.part.stand) + one_if (into.part.holds r)
+one-further out into q r inside free held others =
+    let y : times r.0 (entered into.part.stand) ≡ times r.0 (q.0 ∷ entered out.part.stand) =
+    ap (times r.0) inside in
+    let z = times-cons r.0 q.0 (entered out.part.stand) in
     dite (ℕ_discrete r.0 q.0)
     (λ s. let u : one_if (q.0 == r.0) ≡ 1 = ap one_if (eq-eqb q.0 r.0 (sym s)) in
     let same : r ≡ q = λ j. record { 0 = s j } in
-    let v = cond-bool (a.part.holds r) false (ap a.part.holds same ∙ i.1) in
-    let w = cond-bool (b.part.holds r) true (ap b.part.holds same ∙ i.2) in omega arith)
+    let v = cond-bool (out.part.holds r) false (ap out.part.holds same ∙ free) in
+    let w = cond-bool (into.part.holds r) true (ap into.part.holds same ∙ held) in omega arith)
     (λ ne. let u : one_if (q.0 == r.0) ≡ 0 =
     ap one_if (ne_eqb q.0 r.0 (λ s. ne (sym s))) in
-    let w = cond-bool (b.part.holds r) (a.part.holds r) (i.3 r ne) in omega arith)
+    let w = cond-bool (into.part.holds r) (out.part.holds r) (others ne) in omega arith)
+
+pub entry-tidy : (p : Program) (ev : Event) (a b : TimedPart) (k : TimedContent)
+    → Enters p ev a k b → IsTidy a → IsTidy b
+entry-tidy p ev a b k e h r =
+    let i = entry-inside p ev a b k e in
+    let x = h r in
+    let s = one-further a b k.content.resource r i.0 i.1 i.2 (i.3 r) in omega arith
 
 pub exit-tidy : (p : Program) (ev : Event) (a b : TimedPart) (k : TimedContent)
     → Exits p ev a k b → IsTidy a → IsTidy b
 exit-tidy p ev a b k e h r =
-    let q = k.content.resource in
     let i = exit-inside p ev a b k e in
     let x = h r in
-    let y : times r.0 (entered a.part.stand) ≡ times r.0 (q.0 ∷ entered b.part.stand) =
-    ap (times r.0) i.0 in
-    let z = times-cons r.0 q.0 (entered b.part.stand) in
-    dite (ℕ_discrete r.0 q.0)
-    (λ s. let u : one_if (q.0 == r.0) ≡ 1 = ap one_if (eq-eqb q.0 r.0 (sym s)) in
-    let same : r ≡ q = λ j. record { 0 = s j } in
-    let v = cond-bool (a.part.holds r) true (ap a.part.holds same ∙ i.1) in
-    let w = cond-bool (b.part.holds r) false (ap b.part.holds same ∙ i.2) in omega arith)
-    (λ ne. let u : one_if (q.0 == r.0) ≡ 0 =
-    ap one_if (ne_eqb q.0 r.0 (λ s. ne (sym s))) in
-    let w = cond-bool (b.part.holds r) (a.part.holds r) (i.3 r ne) in omega arith)
+    let s = one-further b a k.content.resource r i.0 i.2 i.1 (λ ne. sym (i.3 r ne)) in omega arith
 
 -- what keeps what a part is inside of, and what it holds, keeps it tidy
 same-tidy : (a b : TimedPart) → entered b.part.stand ≡ entered a.part.stand

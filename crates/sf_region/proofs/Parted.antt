@@ -6,9 +6,10 @@ use Rattle.std.specs.declared.result.Result.{Result}
 use Rattle.std.specs.declared.result.Result.TheVariants.{Ok, Err}
 use Rattle.std.proofs.Common.{sym, ap, ◌∙◌, refl, subst}
 use Rattle.atomic_table.specs.Seated.{TableId}
+use Rattle.sf_base.specs.declared.path.Turn.{Turn}
 use Rattle.sf_base.specs.declared.path.Turn.TheVariants.{Left as left_turn, Right as right_turn}
 use Rattle.sf_core.specs.Machine.Step.{Event}
-use Rattle.sf_core.specs.Machine.Whole.{numbers}
+use Rattle.sf_core.specs.Machine.Whole.{numbers, running}
 use Rattle.sf_core.specs.Program.Syntax.{Program}
 use Rattle.sf_part.specs.Answers.{Answers}
 use Rattle.sf_part.specs.Checked.LawsOfGoing.{EndedChildrenMayBeTakenBack, JoinsGoOn, MayBeTakenBack}
@@ -161,29 +162,26 @@ module _ (p : Program) (law : EndedChildrenMayBeTakenBack) (z y x : Seen) (s l r
       (subst (λ (q : Seen). Answers p (part_of q.1) Done) (sym li) left_ended)
       (subst (λ (q : Seen). Answers p (part_of q.1) Done) (sym ri) right_ended)
 
-  join-left : (q : Program) → q ≡ p → MayEnd q s.1 left_turn l.1 one
-  join-left q same = record {
+  -- a child may end at the join, on its side
+  join-side : (turn : Turn) (seen : Seen) (c : TableId × View) (child : Part)
+      → ((c, child) ≡ seen) → program_in seen.0.1.begun ≡ p → IsSeated c.1 child
+      → IsChild (part_of a).part turn (part_of child).part → (part_of child).part.stand ≡ running []
+      → (q : Program) → q ≡ p → MayEnd q s.1 turn c.1 child
+  join-side turn seen c child is seen_here seated below over q same = record {
     near = (
-      lh.near.0,
-      subst (λ k. Advance k (holding l.1) lh.near.0 (holding (moved one [] l.1)))
-          (here-in p y l one li left_here lh ∙ sym same) lh.near.1,
+      seated.near.0,
+      subst (λ k. Advance k (holding c.1) seated.near.0 (holding (moved child [] c.1)))
+          (here-in p seen c child is seen_here seated ∙ sym same) seated.near.1,
     );
-    child = subst (λ k. IsChild (part_of k).part left_turn (part_of one).part)
-        (sym rest-in.part) back.left_child;
-    ended = back.left_over;
+    child = subst (λ k. IsChild (part_of k).part turn (part_of child).part) (sym rest-in.part) below;
+    ended = over;
   }
 
+  join-left : (q : Program) → q ≡ p → MayEnd q s.1 left_turn l.1 one
+  join-left = join-side left_turn y l one li left_here lh back.left_child back.left_over
+
   join-right : (q : Program) → q ≡ p → MayEnd q s.1 right_turn r.1 two
-  join-right q same = record {
-    near = (
-      rh.near.0,
-      subst (λ k. Advance k (holding r.1) rh.near.0 (holding (moved two [] r.1)))
-          (here-in p x r two ri right_here rh ∙ sym same) rh.near.1,
-    );
-    child = subst (λ k. IsChild (part_of k).part right_turn (part_of two).part)
-        (sym rest-in.part) back.right_child;
-    ended = back.right_over;
-  }
+  join-right = join-side right_turn x r two ri right_here rh back.right_child back.right_over
 
   join-may : numbers (part_of y.1).part.supply ++ numbers (part_of x.1).part.supply ≢ []
       → AreSeparate (part_of s.1.part) (part_of one) (part_of two)

@@ -5,7 +5,6 @@ use Rattle.std.specs.Prelude.{◌≡◌, ◌+◌, ℕ, cond, Bool, true, List, [
 use Rattle.std.specs.List.{sum_by, AllByRecursion}
 use Rattle.std.proofs.Common.{set, sym, ap, ◌∙◌, refl, subst, inl, ⊎_elim, arith}
 use Rattle.std.proofs.lemmas.List.{map-append}
-use Rattle.std.proofs.lemmas.List.Elements.{Contains-push_cases}
 use Rattle.std.proofs.lemmas.List.Sums.{sum_by-append, sum_by-cons}
 use Rattle.std.proofs.lemmas.Option.{none-some, same_Some}
 use mathlib.Core.Option.{some, some-injective}
@@ -28,6 +27,7 @@ use Rattle.sf_region.proofs.Insides.{private-inside}
 use Rattle.sf_region.proofs.Lists.{cut, has-cases, has-first, has-later, has-middle, has-none}
 use Rattle.sf_region.proofs.Runs.{history-more, task-from, task-apart, task-childless, union-has}
 use Rattle.sf_region.proofs.Single.{single-more}
+use Rattle.sf_region.proofs.Turns.{free-more}
 use Rattle.sf_region.proofs.Units.{takes-unit}
 use Rattle.sf_region.specs.declared.views.Begun.{Begun}
 use Rattle.sf_region.specs.Holdings.{Holding}
@@ -213,9 +213,7 @@ module _ (laws : PartLaws) (b : Begun) (marks : List Mark) (m : Mark) (before mo
             (λ k r h t there. let z = st.held k r x h t (has-middle before more x)
             (sym (i.1 r) ∙ there) in omega arith)
             (λ r q h t there. none r t)
-            (λ k r c h t there. ⊎_elim (λ old. st.free k r c old t there)
-            (λ (f : m ≡ k). absurd (none r (subst (λ (z : Mark). Touches r z.kind) (sym f) t)))
-            (Contains-push_cases marks m k h))
+            (free-more m st none)
             (let z = st.clocks x (has-middle before more x) in omega arith)
             (λ r c there. inl (st.stamps r c there))
             (takes-unit m.event (next (runs e.frames)) (has (numbers x.part.supply))

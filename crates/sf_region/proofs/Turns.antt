@@ -309,6 +309,16 @@ module _ (first : TimedPart) (marks : List Mark) (gs hs : List TimedPart) (a b :
             (turns.after q h);
       }
 
+-- what was left stays later than the entries and exits where one event more touches no resource
+pub free-more : {first : TimedPart} {marks : List Mark} {gs : List TimedPart}
+    {contents : List (Option Content)} (m : Mark) → Stamps first marks gs contents
+    → ((r : ResId) → Touches r m.kind → ⊥) → (k : Mark) (r : ResId) (c : Content)
+    → Contains (marks ++ m ∷ []) k → Touches r k.kind → get_elem? contents r.0 ≡ some (Some c)
+    → k.stamp ≤ c.stamp
+free-more {marks = marks} m st none k r c h t there = ⊎_elim (λ old. st.free k r c old t there)
+    (λ (f : m ≡ k). absurd (none r (subst (λ (z : Mark). Touches r z.kind) (sym f) t)))
+    (Contains-push_cases marks m k h)
+
 -- The parts of a table in another order
 pub stamps-same : (first : TimedPart) (marks : List Mark) (gs hs : List TimedPart)
     (contents : List (Option Content)) → Stamps first marks gs contents

@@ -1,7 +1,7 @@
 -- An event takes one unit of those that its task has left, or that its children hand back.
--- Names: `takes-LAW`.
-use Rattle.std.specs.Prelude.{◌≡◌, ◌/◌, ℕ, suc, List, [], ◌∷◌, length}
-use Rattle.std.proofs.Common.{sym, ap, ◌∙◌}
+-- Names: `takes-LAW`; `unit-WHERE` and `no-unit` of the test whether one is left.
+use Rattle.std.specs.Prelude.{◌≡◌, ◌≢◌, ◌↔◌, ◌/◌, ℕ, suc, Bool, true, false, IsTrue, List, [], ◌∷◌, ◌++◌, length}
+use Rattle.std.proofs.Common.{sym, ap, ◌∙◌, refl, subst, true≢false}
 use Rattle.std.proofs.lemmas.List.{take-append-drop}
 use Rattle.sf_core.specs.Machine.Next.{Next, does, leaves, returns, joins, nothing}
 use Rattle.sf_core.specs.Machine.Step.{Event}
@@ -52,3 +52,18 @@ takes-unit ev (returns f below) before after (left, t, e) =
 takes-unit ev (joins frames one two) before after (left, t, e) =
     takes-has ev.number (left_in before) left after t e
 takes-unit ev nothing before after t = absurd t
+
+-- that a task has no unit is told by a test
+pub no-unit : (ns : List ℕ) (b : Bool) → (IsTrue b ↔ (ns ≢ [])) → b ≡ false → ns ≡ []
+no-unit [] b told is = refl
+no-unit (n ∷ ns) b told is = absurd (true≢false (sym (told.1 (λ e. cc)) ∙ is))
+
+-- the left one has a unit
+pub unit-left : (ns ms : List ℕ) → ns ≢ [] → IsTrue true ↔ (ns ++ ms ≢ [])
+unit-left [] ms some = absurd (some refl)
+unit-left (n ∷ ns) ms some = ((λ _. λ e. cc), λ _. refl)
+
+-- the right one does where the left one hasn't
+pub unit-right : (ns ms : List ℕ) (b : Bool) → ns ≡ [] → IsTrue b ↔ (ms ≢ [])
+    → IsTrue b ↔ (ns ++ ms ≢ [])
+unit-right ns ms b none told = subst (λ z. IsTrue b ↔ (z ++ ms ≢ [])) (sym none) told

@@ -1,12 +1,13 @@
 -- A task that has used what it was given, in the list of events of the rule.
 -- Names: `start-LAW` of where a table begins, `drains-LAW` of a part, `drained-LAW` of a view.
-use Rattle.std.specs.Prelude.{◌≡◌, ◌⊎◌, ℕ, ◌+◌, true, false, List, [], ◌∷◌, ◌++◌, map, length, Option, Some, None, Contains}
+use Rattle.std.specs.Prelude.{◌≡◌, ◌⊎◌, ℕ, ◌+◌, true, List, [], ◌∷◌, ◌++◌, length, Option, Some, None, Contains}
 use Rattle.std.proofs.Common.{sym, ap, ◌∙◌, refl, subst, ⊎_elim, arith}
 use Rattle.std.proofs.lemmas.List.{map-append}
 use Rattle.std.proofs.lemmas.Option.{none-some, same_Some}
 use mathlib.Core.Option.{some}
 use lib.ListN.{get_elem?}
 use Rattle.atomic_table.specs.Table.{State}
+use Rattle.sf_base.specs.declared.path.Turn.{Turn}
 use Rattle.sf_base.specs.declared.path.Turn.TheVariants.{Left as left, Right as right}
 use Rattle.sf_core.specs.Machine.Config.{Frame, Task, runs, waits, Path, Config, IsOver, task_at}
 use Rattle.sf_core.specs.Machine.Enabled.{HasEnded}
@@ -164,41 +165,25 @@ waits-going : (path : Path) (frames : List Frame) (one two : Task)
 waits-going [] frames one two h = h
 waits-going (turn ∷ path) frames one two h = h
 
--- the children of one that waits
-child-left : (path : Path) (tree : Task) (frames : List Frame) (one two : Task)
+-- below one that waits stand its children
+child-at : (turn : Turn) (path : Path) (tree : Task) (frames : List Frame) (one two : Task)
     → task_at path tree ≡ Some (waits frames one two)
-    → task_at (path ++ left ∷ []) tree ≡ Some one
-child-left [] tree frames one two e =
-    ap (task_at (left ∷ [])) (same_Some tree (waits frames one two) e)
-child-left (left ∷ path) (waits fs x y) frames one two e = child-left path x frames one two e
-child-left (right ∷ path) (waits fs x y) frames one two e = child-left path y frames one two e
-child-left (left ∷ path) (runs fs) frames one two e = absurd (none-some _ e)
-child-left (right ∷ path) (runs fs) frames one two e = absurd (none-some _ e)
-
-child-right : (path : Path) (tree : Task) (frames : List Frame) (one two : Task)
-    → task_at path tree ≡ Some (waits frames one two)
-    → task_at (path ++ right ∷ []) tree ≡ Some two
-child-right [] tree frames one two e =
-    ap (task_at (right ∷ [])) (same_Some tree (waits frames one two) e)
-child-right (left ∷ path) (waits fs x y) frames one two e = child-right path x frames one two e
-child-right (right ∷ path) (waits fs x y) frames one two e = child-right path y frames one two e
-child-right (left ∷ path) (runs fs) frames one two e = absurd (none-some _ e)
-child-right (right ∷ path) (runs fs) frames one two e = absurd (none-some _ e)
+    → task_at (path ++ turn ∷ []) tree ≡ task_at (turn ∷ []) (waits frames one two)
+child-at turn [] tree frames one two e =
+    ap (task_at (turn ∷ [])) (same_Some tree (waits frames one two) e)
+child-at turn (left ∷ path) (waits fs x y) frames one two e = child-at turn path x frames one two e
+child-at turn (right ∷ path) (waits fs x y) frames one two e = child-at turn path y frames one two e
+child-at turn (left ∷ path) (runs fs) frames one two e = absurd (none-some _ e)
+child-at turn (right ∷ path) (runs fs) frames one two e = absurd (none-some _ e)
 
 -- and their supplies
-lent-left : (path : Path) (tree one two : Supply) → supply_at path tree ≡ Some (lent one two)
-    → supply_at (path ++ left ∷ []) tree ≡ Some one
-lent-left [] tree one two e = ap (supply_at (left ∷ [])) (same_Some tree (lent one two) e)
-lent-left (left ∷ path) (lent x y) one two e = lent-left path x one two e
-lent-left (right ∷ path) (lent x y) one two e = lent-left path y one two e
-lent-left (turn ∷ path) (has us) one two e = absurd (none-some (lent one two) e)
-
-lent-right : (path : Path) (tree one two : Supply) → supply_at path tree ≡ Some (lent one two)
-    → supply_at (path ++ right ∷ []) tree ≡ Some two
-lent-right [] tree one two e = ap (supply_at (right ∷ [])) (same_Some tree (lent one two) e)
-lent-right (left ∷ path) (lent x y) one two e = lent-right path x one two e
-lent-right (right ∷ path) (lent x y) one two e = lent-right path y one two e
-lent-right (turn ∷ path) (has us) one two e = absurd (none-some (lent one two) e)
+lent-at : (turn : Turn) (path : Path) (tree one two : Supply)
+    → supply_at path tree ≡ Some (lent one two)
+    → supply_at (path ++ turn ∷ []) tree ≡ supply_at (turn ∷ []) (lent one two)
+lent-at turn [] tree one two e = ap (supply_at (turn ∷ [])) (same_Some tree (lent one two) e)
+lent-at turn (left ∷ path) (lent x y) one two e = lent-at turn path x one two e
+lent-at turn (right ∷ path) (lent x y) one two e = lent-at turn path y one two e
+lent-at turn (next ∷ path) (has us) one two e = absurd (none-some (lent one two) e)
 
 nil-both : (xs ys : List ℕ) → xs ++ ys ≡ [] → (xs ≡ []) × (ys ≡ [])
 nil-both [] ys e = (refl, e)
@@ -292,9 +277,9 @@ module _ (laws : PartLaws) (b : Begun) (s : State Slot View) (law : Law b s) (id
         let both = nil-both (numbers (part_of one).part.supply) (numbers (part_of two).part.supply)
         spent.none in
         let l = child-empty tree supplied (part_of one) first-there spent.left_ended both.0 x
-        (ap (λ z. supply_at z tree) spent.left.task ∙ lent-left a.part.task tree x y at_lent) in
+        (ap (λ z. supply_at z tree) spent.left.task ∙ lent-at left a.part.task tree x y at_lent) in
         let r = child-empty tree supplied (part_of two) second-there spent.right_ended both.1 y
-        (ap (λ z. supply_at z tree) spent.right.task ∙ lent-right a.part.task tree x y at_lent) in
+        (ap (λ z. supply_at z tree) spent.right.task ∙ lent-at right a.part.task tree x y at_lent) in
         ap left_in (same_Some u w (sym is ∙ here) ∙ lends) ∙ (λ i. l i ++ r i)
 
     module _ (c : Config) (began : BeganAt b c) where
@@ -341,10 +326,10 @@ module _ (laws : PartLaws) (b : Begun) (s : State Slot View) (law : Law b s) (id
           ((part_of one).part ∷ (part_of two).part ∷ untimed back) a.part (present q.contents)
           h.config frames three-whole is in
           let l : x ≡ runs [] = same_Some x (runs [])
-          (sym (child-left a.part.task h.config.tasks frames x y there)
+          (sym (child-at left a.part.task h.config.tasks frames x y there)
           ∙ (ap (λ z. task_at z h.config.tasks) (sym spent.left.task) ∙ left-over)) in
           let r : y ≡ runs [] = same_Some y (runs [])
-          (sym (child-right a.part.task h.config.tasks frames x y there)
+          (sym (child-at right a.part.task h.config.tasks frames x y there)
           ∙ (ap (λ z. task_at z h.config.tasks) (sym spent.right.task) ∙ right-over)) in
           drains-part laws b law.marks (parts_in s.views) q.contents q.history q.grants a mine
           (waiting-empty frames is) c began (waits frames x y) there

@@ -1,6 +1,6 @@
 //! A task, its own steps, and how a table begins and is closed with it.
 
-ghost use Rattle.std.specs.Prelude.{◌≡◌, ◌≢◌, ◌↔◌, [], length, IfOk, IsTrue, OnErr};
+ghost use Rattle.std.specs.Prelude.{◌≡◌, ◌≢◌, ◌↔◌, ◌++◌, [], length, IfOk, IsTrue, OnErr};
 ghost use Rattle.sf_core.specs.Machine.Step.{Event};
 ghost use Rattle.sf_core.specs.Machine.Whole.{numbers};
 ghost use Rattle.sf_core.specs.Program.ProgramView.{program_of};
@@ -83,11 +83,22 @@ impl<'p> Task<'p> {
     }
 
     /// Whether a number is left that the task may give an event: the test for the one that
-    /// `try_region`, `leave_region` and `fork` need. For `join` it is asked of the two children.
+    /// `try_region`, `leave_region` and `fork` need.
     pub fn has_unit(&self) -> bool
         ensures { IsTrue result ↔ (numbers (part_of self.now.1).part.supply ≢ []) }
     {
         self.part.has_unit()
+    }
+
+    /// Whether this task or another has one: of two children, the test for the one that `join` needs.
+    pub fn has_unit_or(&self, other: &Task<'p>) -> bool
+        ensures { IsTrue result ↔ (numbers (part_of self.now.1).part.supply
+            ++ numbers (part_of other.now.1).part.supply ≢ []) }
+    {
+        if self.has_unit() {
+            return true;
+        }
+        other.has_unit()
     }
 
     /// How many numbers the task was given at its start.

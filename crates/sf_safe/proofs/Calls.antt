@@ -53,15 +53,15 @@ module _ (p : Program) (n : ℕ) (owed : Known) (f : Frame) (below : List Frame)
       (opened (rule.given ∷ rule.kept ∷ []) (k.right ∷ r ∷ e ∷ []) all (two rule.parts)) in
       let x = after-call (everything p t) new_ rule.given rule.kept k.right r e more in
       record {
-        part = x.stack;
+        part = x.below.stack;
         free = e;
-        sums = x.sums;
-        tree = subst (λ z. Tree p n owed z x.stack) (sym is) (
+        sums = x.below.sums;
+        tree = subst (λ z. Tree p n owed z x.below.stack) (sym is) (
           arguments slots k.left.slots c,
           record {
             left = x.callee;
-            right = x.others;
-            parts = x.split;
+            right = x.below.frame;
+            parts = parts-comm x.below.split;
             first = bodies (callee me k.left c g room) g there n x.callee
                 (rule.enters ev.number x.callee x.entered);
             second = (
@@ -69,7 +69,7 @@ module _ (p : Program) (n : ℕ) (owed : Known) (f : Frame) (below : List Frame)
               record {
                 left = rule.kept;
                 right = k.right;
-                parts = x.waiting;
+                parts = x.below.back;
                 first = rule.goes_on ev.number;
                 second = fewer-callers p n me below owed k.right k.second;
               },

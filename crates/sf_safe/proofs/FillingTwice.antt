@@ -1,6 +1,6 @@
 -- Two tasks that enter one region: the program is formed, meets the conditions, and its bodies are safe.
 -- Names: `formed-WHAT`, `conditions-WHAT`, `safe-WHAT`; the law's.
-use Rattle.std.specs.Prelude.{◌≡◌, ◌⊎◌, ℕ, pos, zero, suc, Bool, slice_get, true, false, cond, [], ◌∷◌, Contains, Option, Some, None, ◌==◌, ◌&&◌, ◌<◌, ◌≤◌, ◌+◌, ◌-◌, length, leb, ltb}
+use Rattle.std.specs.Prelude.{◌≡◌, ◌⊎◌, ℕ, pos, zero, suc, Bool, slice_get, true, false, cond, [], ◌∷◌, Contains, Option, Some, None, codes, ◌==◌, ◌&&◌, ◌<◌, ◌≤◌, ◌+◌, ◌-◌, length, leb, ltb}
 use Rattle.std.specs.Option.{unwrap_or}
 use Rattle.std.specs.Str.{bytes_eq}
 use Rattle.std.proofs.Common.{true≢false, sym, ap, ◌∙◌, refl, subst, subst₂, inl, inr, arith}
@@ -45,7 +45,7 @@ use Rattle.sf_core.specs.Machine.Good.{owed_by}
 use Rattle.sf_core.specs.Program.Init.{init_name, is_init, sets_up}
 use Rattle.sf_core.specs.Program.Named.{name_in}
 use Rattle.sf_core.proofs.Inits.{owed_by-post}
-use Rattle.sf_core.specs.Program.Syntax.{Call, Command, done, fork, mutate, then, with, Procedure, Resource}
+use Rattle.sf_core.specs.Program.Syntax.{Call, Command, done, fork, mutate, then, with, Procedure, Program, Resource}
 use Rattle.sf_safe.specs.Checked.Own.{Own, Parts, new_slots, nothing, put_cell, without_room}
 use Rattle.sf_safe.specs.Checked.Contract.{Ended, Entered, FreeShare, IsVariableOf, Known, OwnsVariables, Returned, given_back, see}
 use Rattle.sf_safe.specs.Checked.Examples.{FillingTwiceIsSound, fills, filling_twice, twice}
@@ -134,6 +134,10 @@ formed-resources zero r e =
     })
 formed-resources (suc k) r e = absurd (cc)
 
+-- the program of two procedures beside the one resource
+abbrev pub beside : Procedure → Procedure → Program
+beside one other = record { fields = codes "hd" ∷ []; resources = guarding ∷ []; procedures = one ∷ other ∷ [] }
+
 -- neither sets the resource up
 plain : (k : ℕ) (g : Procedure) → slice_get (twice ∷ fills ∷ []) k ≡ Some g → is_init g ≡ false
 plain k g e = elim (which k g e) [ inl i ↦ ap is_init (sym i) | inr i ↦ ap is_init (sym i) ]
@@ -142,16 +146,25 @@ plain k g e = elim (which k g e) [ inl i ↦ ap is_init (sym i) | inr i ↦ ap i
 owes-post : (g : Procedure) → is_init g ≡ false → owed_by filling_twice g ≡ g.post.level ∷ []
 owes-post g n = owed_by-post filling_twice g n
 
-formed : IsFormed filling_twice
-formed = record {
-  procedures = formed-procedures;
+-- two procedures beside the one resource are a program that is formed, where each is within it and at most one sets
+-- the resource up
+pub formed-two : (one other : Procedure)
+    → ((k : ℕ) (g : Procedure) → slice_get (one ∷ other ∷ []) k ≡ Some g → ProcedureWithin (beside one other) g)
+    → ((j k : ℕ) (f g : Procedure) → slice_get (one ∷ other ∷ []) j ≡ Some f
+    → slice_get (one ∷ other ∷ []) k ≡ Some g → is_init f ≡ true → is_init g ≡ true → j ≡ k)
+    → IsFormed (beside one other)
+formed-two one other within one_init = record {
+  procedures = within;
   resources = formed-resources;
   procedure_count = let e : 2 ≤ 1000 = omega arith in e;
   resource_count = let e : 1 ≤ 64 = omega arith in e;
   field_count = let e : 1 ≤ 16 = omega arith in e;
   variables = let e : 1 ≤ 256 = omega arith in e;
-  one_init = λ j k f g a b i n. absurd (true≢false (sym i ∙ plain j f a));
+  one_init = one_init;
 }
+
+formed : IsFormed filling_twice
+formed = formed-two twice fills formed-procedures (λ j k f g a b i n. absurd (true≢false (sym i ∙ plain j f a)))
 
 -- CONDITIONS
 

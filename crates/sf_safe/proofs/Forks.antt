@@ -1,15 +1,15 @@
 -- Forks and joins keep what is owned.
 -- Names: the event's.
-use Rattle.std.specs.Prelude.{◌≡◌, ℕ, suc, true, List, [], ◌∷◌, None}
+use Rattle.std.specs.Prelude.{◌≡◌, ℕ, suc, true, List, [], ◌∷◌, None, Some}
 use Rattle.std.proofs.Common.{sym, subst, refl}
 use Rattle.sf_base.specs.declared.place.Place.{Place}
 use Rattle.sf_base.specs.HeapStore.{Slot}
-use Rattle.sf_core.specs.Machine.Config.{Item, command, in_room, Frame, Task, runs, waits, Common, IsOver}
-use Rattle.sf_core.specs.Machine.Step.{Event, Does, arguments, open_room, room_for, room_count}
+use Rattle.sf_core.specs.Machine.Config.{Item, command, in_room, items, Frame, Task, runs, waits, Common, IsOver}
+use Rattle.sf_core.specs.Machine.Step.{Event, Does, arguments, open_room, procedure_at, room_for, room_count}
 use Rattle.sf_core.specs.Program.Syntax.{Call, fork, Procedure, Program}
 use Rattle.sf_safe.specs.Checked.Own.{Own, Parts, everything, new_slots, nothing}
 use Rattle.sf_safe.specs.Checked.Safe.{Safe, callee}
-use Rattle.sf_safe.specs.Checked.Contract.{Known}
+use Rattle.sf_safe.specs.Checked.Contract.{Entered, Known}
 use Rattle.sf_safe.specs.Checked.Invariant.{known, Running, Tree, Resources}
 use Rattle.sf_safe.specs.Checked.Law.{BodiesAreSafe}
 use Rattle.sf_safe.specs.Checked.LawsOfShares.{After}
@@ -17,6 +17,25 @@ use Rattle.sf_safe.specs.Checked.Owns.{Sums, front, opened, order, parts-comm, p
 use Rattle.sf_safe.specs.Checked.Seen.{seen-arguments}
 use Rattle.sf_safe.proofs.Shuffles.{after-back, after-fork}
 use Rattle.sf_safe.specs.Checked.Fewer.{fewer, fewer-callers}
+
+-- the frame with which a call's task begins
+abbrev first_frame : Known → Procedure → Frame
+first_frame k g = record { fixed = k.fixed; todo = items g.body }
+
+-- a task begins with one frame, which has all of its share
+begins : {p : Program} (n : ℕ) → BodiesAreSafe p → (k : Known) (g : Procedure)
+    → procedure_at p k.fixed.procedure ≡ Some g → (w : Own) → Entered p k w
+    → Running p n k (first_frame k g ∷ []) w
+begins n bodies k g there w entered = (
+  k.values,
+  record {
+    left = w;
+    right = nothing;
+    parts = parts-nothing w;
+    first = bodies k g there n w entered;
+    second = (refl, refl);
+  },
+)
 
 module _ (p : Program) (n : ℕ) (owed : Known) (s t : Common) (task : Task) (u r e : Own)
     (sums : Sums (everything p s) (u ∷ r ∷ e ∷ [])) (free : Resources p s.held 0 p.resources e) where
@@ -60,25 +79,26 @@ module _ (p : Program) (n : ℕ) (owed : Known) (s t : Common) (task : Task) (u 
       let more2 = front (first ∷ rule.left ∷ rule.right ∷ rule.kept ∷ k.right ∷ r ∷ e ∷ []) (parts-comm parts2)
       more in
       let x = after-fork (everything p t) second first rule.left rule.right rule.kept k.right r e more2 in
+      let stacked = x.children.below in
       let left = callee me k.left c g one in
       let right = callee me k.left d h other in
       record {
-        part = x.task;
+        part = stacked.stack;
         free = e;
-        sums = x.sums;
-        tree = subst (λ z. Tree p n owed z x.task) (sym does.6) (
+        sums = stacked.sums;
+        tree = subst (λ z. Tree p n owed z stacked.stack) (sym does.6) (
           left,
           right,
           record {
-            left = x.parent;
-            right = x.children;
-            parts = x.split;
+            left = stacked.frame;
+            right = x.children.callee;
+            parts = stacked.split;
             first = (
               v,
               record {
                 left = rule.kept;
                 right = k.right;
-                parts = x.waiting;
+                parts = stacked.back;
                 first = rule.goes_on ev.number;
                 second = fewer-callers p n me below owed k.right k.second;
               },
@@ -86,27 +106,9 @@ module _ (p : Program) (n : ℕ) (owed : Known) (s t : Common) (task : Task) (u 
             second = record {
               left = x.first;
               right = x.second;
-              parts = x.apart;
-              first = (
-                left.values,
-                record {
-                  left = x.first;
-                  right = nothing;
-                  parts = parts-nothing x.first;
-                  first = bodies left g does.3 n x.first (rule.enters_left ev.number x.first x.first_entered);
-                  second = (refl, refl);
-                },
-              );
-              second = (
-                right.values,
-                record {
-                  left = x.second;
-                  right = nothing;
-                  parts = parts-nothing x.second;
-                  first = bodies right h does.4 n x.second (rule.enters_right ev.number x.second x.second_entered);
-                  second = (refl, refl);
-                },
-              );
+              parts = x.children.entered;
+              first = begins n bodies left g does.3 x.first (rule.enters_left ev.number x.first x.first_entered);
+              second = begins n bodies right h does.4 x.second (rule.enters_right ev.number x.second x.second_entered);
             };
           },
         );

@@ -176,21 +176,27 @@ module _ (p : Program) where
   inside left q f g t e i = absurd (none-some _ (runs g) (ap (task_at (left ∷ q)) e) i)
   inside right q f g t e i = absurd (none-some _ (runs g) (ap (task_at (right ∷ q)) e) i)
 
+  -- two that run have different shares where the whole is theirs and two more
+  two-of : {n : ℕ} {f g : List Frame} {w a b first second : Own} (owes other_owes : Known)
+      → Sums w (a ∷ b ∷ first ∷ second ∷ []) → Running p (suc n) owes f first
+      → Running p (suc n) other_owes g second → Two n f g w
+  two-of {w = w} {first = first} {second = second} owes other_owes s one other =
+      let m = group (first ∷ second ∷ []) s in
+      record {
+        first = first;
+        second = second;
+        rest = m.both;
+        sums = order (1 ∷ 1 ∷ []) (m.both ∷ first ∷ second ∷ []) w m.sums;
+        owes = owes;
+        other_owes = other_owes;
+        one = one;
+        other = other;
+      }
+
   deeper : {n : ℕ} {f g : List Frame} {w u v : Own} → Parts w u v → Two n f g u → Two n f g w
   deeper {v = v} q t =
       let s = opened (t.first ∷ t.second ∷ t.rest ∷ []) (v ∷ []) (two q) t.sums in
-      let m = group (t.first ∷ t.second ∷ [])
-      (order (2 ∷ 2 ∷ []) (t.first ∷ t.second ∷ t.rest ∷ v ∷ []) _ s) in
-      record {
-        first = t.first;
-        second = t.second;
-        rest = m.both;
-        sums = order (1 ∷ 1 ∷ []) (m.both ∷ t.first ∷ t.second ∷ []) _ m.sums;
-        owes = t.owes;
-        other_owes = t.other_owes;
-        one = t.one;
-        other = t.other;
-      }
+      two-of t.owes t.other_owes (order (2 ∷ 2 ∷ []) (t.first ∷ t.second ∷ t.rest ∷ v ∷ []) _ s) t.one t.other
 
   sides : (n : ℕ) (g h : Known) (l r : Task) (q k : Path) (f e : List Frame) (w u v : Own) → Parts w u v
       → task_at q l ≡ Some (runs f) → task_at k r ≡ Some (runs e) → Tree p (suc n) g l u
@@ -202,18 +208,7 @@ module _ (p : Program) where
       let a = opened (x.part ∷ x.rest ∷ []) (v ∷ []) (two parts) (two x.parts) in
       let b = opened (y.part ∷ y.rest ∷ []) (x.part ∷ x.rest ∷ [])
       (order (2 ∷ []) (x.part ∷ x.rest ∷ v ∷ []) w a) (two y.parts) in
-      let c = group (x.part ∷ y.part ∷ [])
-      (order (1 ∷ 2 ∷ 1 ∷ []) (y.part ∷ y.rest ∷ x.part ∷ x.rest ∷ []) w b) in
-      record {
-        first = x.part;
-        second = y.part;
-        rest = c.both;
-        sums = order (1 ∷ 1 ∷ []) (c.both ∷ x.part ∷ y.part ∷ []) w c.sums;
-        owes = x.owes;
-        other_owes = y.owes;
-        one = x.here;
-        other = y.here;
-      }
+      two-of x.owes y.owes (order (1 ∷ 2 ∷ 1 ∷ []) (y.part ∷ y.rest ∷ x.part ∷ x.rest ∷ []) w b) x.here y.here
 
   turned : {n : ℕ} {f g : List Frame} {w : Own} → Two n f g w → Two n g f w
   turned {w = w} t = record {

@@ -16,9 +16,9 @@ use Rattle.sf_safe.specs.Checked.Contract.{Known, FreeShare}
 use Rattle.sf_safe.specs.Checked.Safe.{Safe}
 use Rattle.sf_safe.specs.Checked.Invariant.{known, Running, Tree, ShareOf, Resources}
 use Rattle.sf_safe.specs.Checked.LawsOfShares.{After}
-use Rattle.sf_safe.specs.Checked.Owns.{Sums, opened, order, parts-comm, parts-nothing, parts-of_nothing, parts-right, two}
+use Rattle.sf_safe.specs.Checked.Owns.{Sums, group, opened, order, parts-comm, parts-nothing, parts-of_nothing, parts-right, two}
 use Rattle.sf_safe.specs.Checked.Seen.{seen-test}
-use Rattle.sf_safe.proofs.Shuffles.{after-entry, after-exit}
+use Rattle.sf_safe.proofs.Shuffles.{after-entry}
 use Rattle.sf_safe.specs.Checked.Fewer.{fewer-callers}
 
 -- who holds the resources when one of them changes hands
@@ -183,23 +183,26 @@ module _ (p : Program) (n : ℕ) (owed : Known) (f : Frame) (below : List Frame)
       let safe = subst (λ z. Safe p (suc n) (known f v) z k.left) i k.first in
       let all = opened (safe.share ∷ safe.kept ∷ []) (k.right ∷ q ∷ e ∷ [])
       (opened (k.left ∷ k.right ∷ []) (q ∷ e ∷ []) sums (two k.parts)) (two safe.parts) in
-      let z = after-exit (everything p s) safe.share safe.kept k.right q e all in
+      let freed = group (safe.kept ∷ k.right ∷ q ∷ [])
+      (order (0 ∷ 3 ∷ []) (safe.share ∷ safe.kept ∷ k.right ∷ q ∷ e ∷ []) (everything p s) all) in
+      let stack = group (q ∷ freed.both ∷ [])
+      (order (1 ∷ 1 ∷ 1 ∷ []) (freed.both ∷ safe.kept ∷ k.right ∷ q ∷ []) (everything p s) freed.sums) in
       record {
-        part = z.stack;
-        free = z.free;
-        sums = subst (λ y. Sums (everything p y) (z.stack ∷ q ∷ z.free ∷ [])) (sym d) z.sums;
-        tree = subst (λ y. Tree p n owed y z.stack) (sym j) (
+        part = stack.both;
+        free = freed.both;
+        sums = subst (λ y. Sums (everything p y) (stack.both ∷ q ∷ freed.both ∷ [])) (sym d) stack.sums;
+        tree = subst (λ y. Tree p n owed y stack.both) (sym j) (
           v,
           record {
             left = safe.kept;
             right = k.right;
-            parts = z.split;
+            parts = stack.parts;
             first = safe.goes_on;
             second = fewer-callers p n (known f v) below owed k.right k.second;
           },
         );
-        resources = subst (λ y. Resources p y.held 0 p.resources z.free) (sym d)
-            (resources-give p s.held r path 0 p.resources z.free safe.share e (omega arith)
+        resources = subst (λ y. Resources p y.held 0 p.resources freed.both) (sym d)
+            (resources-give p s.held r path 0 p.resources freed.both safe.share e (omega arith)
             (let l : r.0 < length p.resources = slice_get_within p.resources r.0 safe.free.resource safe.free.there in
-            omega (arith, l)) h safe.free z.back free);
+            omega (arith, l)) h safe.free freed.parts free);
       }

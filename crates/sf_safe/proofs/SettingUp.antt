@@ -42,7 +42,7 @@ use Rattle.sf_safe.specs.Checked.Contract.{Ended, Entered, IsVariableOf, Known, 
 use Rattle.sf_safe.specs.Checked.Examples.{SettingUpIsSound, UnmetInvariantsAreNotSound}
 use Rattle.sf_safe.specs.Checked.Law.{BodiesAreSafe, SafeProgramsAreSound}
 use Rattle.sf_safe.specs.Checked.Safe.{Safe}
-use Rattle.sf_safe.proofs.FillingTwice.{formed-resources}
+use Rattle.sf_safe.proofs.FillingTwice.{formed-two}
 use Rattle.sf_safe.proofs.Sound.{safe_programs_are_sound}
 
 -- a run that begins fresh with an unmet invariant isn't good
@@ -116,15 +116,8 @@ formed-number k g e n = elim (which k g e) [
 ]
 
 formed : IsFormed p
-formed = record {
-  procedures = formed-procedures;
-  resources = formed-resources;
-  procedure_count = let e : 2 ≤ 1000 = omega arith in e;
-  resource_count = let e : 1 ≤ 64 = omega arith in e;
-  field_count = let e : 1 ≤ 16 = omega arith in e;
-  variables = let e : 1 ≤ 256 = omega arith in e;
-  one_init = λ j k f g a b i n. formed-number j f a i ∙ sym (formed-number k g b n);
-}
+formed = formed-two skip makes_its_cell formed-procedures
+    (λ j k f g a b i n. formed-number j f a i ∙ sym (formed-number k g b n))
 
 -- CONDITIONS
 

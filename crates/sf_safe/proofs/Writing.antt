@@ -24,7 +24,7 @@ use Rattle.sf_core.specs.Machine.Start.{entry_frame, entry_slot}
 use Rattle.sf_core.specs.Program.Heads.{sites}
 use Rattle.sf_core.specs.Program.Syntax.{Procedure}
 use Rattle.sf_safe.specs.Checked.Own.{HasSlot, Own}
-use Rattle.sf_safe.specs.Checked.Contract.{Entered, IsVariableOf, Known, see}
+use Rattle.sf_safe.specs.Checked.Contract.{Entered, IsFrameOf, IsVariableOf, Known, see}
 use Rattle.sf_safe.specs.Checked.Examples.{WritingIsNotSafe, writes, writing}
 
 abbrev first : ProcId
@@ -110,17 +110,20 @@ slots-only slot v e =
     let l : 0 < 1 = omega arith in
     (OwnVar 0, l, sym (slot-same (own 0 0) slot (cond-true (same_slot slot (own 0 0)) (Some nil) v e)))
 
+framed : IsFrameOf writing begun.fixed writes
+framed = record {
+  there = refl;
+  count = refl;
+  own_slots = own-slots;
+  shared_slots = λ r i. refl;
+  apart = frame-apart;
+}
+
 entered : Entered writing begun begun_share
 entered = record {
   procedure = writes;
   owns = record {
-    frame = record {
-      there = refl;
-      count = refl;
-      own_slots = own-slots;
-      shared_slots = λ r i. refl;
-      apart = frame-apart;
-    };
+    frame = framed;
     variables = record { each = slots-each; only = slots-only };
     tokens = λ r. refl;
     values = λ i l. let e : ⊥ = omega (arith, l) in absurd e;

@@ -10,8 +10,9 @@ use Rattle.sf_base.specs.declared.limits.TheConstants.{STEPS, TURNS}
 use Rattle.sf_base.specs.declared.path.Turn.{Turn}
 use Rattle.sf_base.specs.declared.path.Turn.TheVariants.{Left as left_turn, Right as right_turn}
 use Rattle.sf_base.specs.declared.value.Value.{Value}
+use Rattle.sf_core.specs.Machine.Config.{Config}
 use Rattle.sf_core.specs.Machine.Step.{Event}
-use Rattle.sf_core.specs.Machine.Whole.{numbers}
+use Rattle.sf_core.specs.Machine.Whole.{Content, Part as WholePart, Whole, numbers}
 use Rattle.sf_core.specs.Program.Syntax.{Program}
 use Rattle.sf_own.specs.Checked.Accepted.{IsAccepted}
 use Rattle.sf_own.specs.Checked.Laws.{FirstPartsAreSafe, ForksKeepSafe, GoingKeepsSafe}
@@ -32,9 +33,10 @@ use Rattle.sf_part.specs.Lent.{Lends}
 use Rattle.sf_part.specs.PartView.{IsPartOf, part_of}
 use Rattle.sf_part.specs.Steps.{Private}
 use Rattle.sf_part.specs.Timed.{TimedPart}
+use Rattle.sf_safe.specs.Checked.Contract.{Known}
 use Rattle.sf_setup.proofs.Goes.{composes, forget, keeps-path, setting-going, spends-time, spends-units}
 use Rattle.sf_setup.proofs.Quiet.{child-past, left-below, quiet-no_exit, quiet-no_region, right-below}
-use Rattle.sf_setup.specs.Checked.Alone.{HasCome, HasEnded, HasGone, HasMoved, HasParted, IsAlone, IsWithin}
+use Rattle.sf_setup.specs.Checked.Alone.{HasCome, HasEnded, HasGone, HasMoved, HasParted, IsAlone, IsBelow, IsWithin}
 use Rattle.sf_setup.specs.Checked.Laws.{EventsAloneAreSteps}
 use Rattle.sf_setup.specs.Checked.RunLaws.{RunLaws}
 use Rattle.sf_setup.specs.Checked.Fresh.{BeginsFresh, Origin}
@@ -298,31 +300,51 @@ module _ (laws : RunLaws) (p : Program) (accepted : IsAccepted p) where
     unfolding ForksHalve
     halves = laws.halve p event (part_of a) (part_of waits) (part_of left) (part_of right) x.forks
 
-    within-left : IsWithin (part_of left).part
-    unfolding ForksAreSteps PartsInAnyOrder
-    within-left =
+    -- the whole that the three are of
+    forked : (others : List WholePart) × (contents : List Content) × (c : Config)
+        × Whole ((part_of waits).part ∷ (part_of left).part ∷ (part_of right).part ∷ others)
+        contents c
+    unfolding ForksAreSteps
+    forked =
         let (others, contents, c, w) = h.within in
         let l = laws.forks p event (part_of a) (part_of waits) (part_of left) (part_of right) []
-        others contents c x.forks w in (
+        others contents c x.forks w in
+        (others, contents, l.config, l.whole)
+
+    within-left : IsWithin (part_of left).part
+    unfolding PartsInAnyOrder
+    within-left =
+        let (others, contents, c, w) = forked in (
           (part_of waits).part ∷ (part_of right).part ∷ others,
           contents,
-          l.config,
+          c,
           (laws.order ((part_of waits).part ∷ []) ((part_of right).part ∷ others)
-              (part_of left).part contents l.config).0 l.whole,
+              (part_of left).part contents c).0 w,
         )
 
     within-right : IsWithin (part_of right).part
-    unfolding ForksAreSteps PartsInAnyOrder
+    unfolding PartsInAnyOrder
     within-right =
-        let (others, contents, c, w) = h.within in
-        let l = laws.forks p event (part_of a) (part_of waits) (part_of left) (part_of right) []
-        others contents c x.forks w in (
+        let (others, contents, c, w) = forked in (
           (part_of waits).part ∷ (part_of left).part ∷ others,
           contents,
-          l.config,
+          c,
           (laws.order ((part_of waits).part ∷ (part_of left).part ∷ []) others
-              (part_of right).part contents l.config).0 l.whole,
+              (part_of right).part contents c).0 w,
         )
+
+    child-alone : (child : Part) → IsPartOf p child → IsWithin (part_of child).part
+        → (owed : Known) → IsSafe p owed (part_of child).part → IsBelow p owed (part_of child).part
+        → length (part_of child).part.task ≡ length (part_of a).part.task + 1
+        → 2 * units_of (part_of child) ≤ units_of (part_of a) → IsAlone p child
+    child-alone child of within owed safe below deeper half = record {
+      of = of;
+      within = within;
+      owed = owed;
+      safe = safe;
+      quiet = inr below;
+      room = child-room (part_of child) deeper half;
+    }
 
     pub parted : HasParted p a (record { waits = waits; left = left; right = right })
     parted = record {
@@ -331,26 +353,14 @@ module _ (laws : RunLaws) (p : Program) (accepted : IsAccepted p) where
       event = event;
       lends = x;
       waits_of = waits_of;
-      left = record {
-        of = left_of;
-        within = within-left;
-        owed = safes.left;
-        safe = safes.first;
-        quiet = inr (left-below p accepted.formed accepted.conditions h.owed event (part_of a)
-            (part_of waits) (part_of left) (part_of right) x h.of.is h.safe h.quiet safes.left
-            safes.first left_of.is);
-        room = child-room (part_of left) left-length halves.0;
-      };
-      right = record {
-        of = right_of;
-        within = within-right;
-        owed = safes.right;
-        safe = safes.second;
-        quiet = inr (right-below p accepted.formed accepted.conditions h.owed event (part_of a)
-            (part_of waits) (part_of left) (part_of right) x h.of.is h.safe h.quiet safes.right
-            safes.second right_of.is);
-        room = child-room (part_of right) right-length halves.1;
-      };
+      left = child-alone left left_of within-left safes.left safes.first
+          (left-below p accepted.formed accepted.conditions h.owed event (part_of a)
+          (part_of waits) (part_of left) (part_of right) x h.of.is h.safe h.quiet safes.left
+          safes.first left_of.is) left-length halves.0;
+      right = child-alone right right_of within-right safes.right safes.second
+          (right-below p accepted.formed accepted.conditions h.owed event (part_of a)
+          (part_of waits) (part_of left) (part_of right) x h.of.is h.safe h.quiet safes.right
+          safes.second right_of.is) right-length halves.1;
       left_past = child-past p (part_of left).part x.left left_of.is x.left_runs;
       right_past = child-past p (part_of right).part x.right right_of.is x.right_runs;
       turns = turn-left a h unit;

@@ -1,7 +1,7 @@
 -- A task that goes on stays one that runs; and what it meets, what it has for it.
 -- Names: `running-EVENT`, `moved-EVENT`, `no-ANSWER`, `ended-LAW`.
-use Rattle.std.specs.Prelude.{◌≡◌, ◌≢◌, ◌↔◌, ◌==◌, ◌<◌, ◌≤◌, ◌-◌, ◌*◌, ◌^◌, ℕ, cond, Bool, false, IsTrue, List, [], ◌∷◌, length}
-use Rattle.std.proofs.Common.{sym, ap, ◌∙◌, refl, subst, arith, true≢false}
+use Rattle.std.specs.Prelude.{◌≡◌, ◌==◌, ◌<◌, ◌≤◌, ◌-◌, ◌*◌, ◌^◌, ℕ, cond, length}
+use Rattle.std.proofs.Common.{sym, ap, ◌∙◌, refl, subst, arith}
 use Rattle.atomic_table.specs.Seated.{TableId}
 use Rattle.sf_base.specs.declared.ids.ResId.{ResId}
 use Rattle.sf_base.specs.declared.limits.TheConstants.{STEPS}
@@ -39,11 +39,6 @@ below k = 64 - length (part_of k.1).part.task
 -- a clock that rises stays within the limit of all events
 pub clock-within : (a : Part) → (part_of a).clock ≤ STEPS
 clock-within a = let k = a.kept.time.within in omega arith
-
--- that a task has no unit is told by a test
-pub no-unit : (ns : List ℕ) (b : Bool) → (IsTrue b ↔ (ns ≢ [])) → b ≡ false → ns ≡ []
-no-unit [] b told is = refl
-no-unit (n ∷ ns) b told is = absurd (true≢false (sym (told.1 (λ e. cc)) ∙ is))
 
 -- what is told of a spent task is told of the table
 pub spent-told : (b : Begun) (c : Begun) (path at : Path) (given gave : ℕ) → c ≡ b → path ≡ at

@@ -1,6 +1,6 @@
 -- A task that forks, its children while they run, and its join.
 -- Names: `fork-FACT`, `meet-FACT`.
-use Rattle.std.specs.Prelude.{◌≡◌, ◌≢◌, ◌↔◌, ◌<◌, ◌≤◌, ◌+◌, ◌*◌, ◌^◌, ℕ, Bool, true, IsTrue, [], ◌∷◌, ◌++◌, List, length, IfOk, Result, Ok, Err}
+use Rattle.std.specs.Prelude.{◌≡◌, ◌≢◌, ◌<◌, ◌≤◌, ◌+◌, ◌*◌, ◌^◌, ℕ, [], ◌∷◌, ◌++◌, List, length, IfOk, Result, Ok, Err}
 use Rattle.std.proofs.Common.{sym, ap, ◌∙◌, refl, subst, arith}
 use Rattle.std.proofs.lemmas.Bool.{cases_lt}
 use Rattle.std.proofs.lemmas.Grind.{pow_more}
@@ -17,8 +17,9 @@ use Rattle.sf_core.specs.Program.Syntax.{Program}
 use Rattle.sf_own.specs.Checked.Accepted.{IsAccepted}
 use Rattle.sf_own.specs.Checked.Laws.{ForksKeepSafe}
 use Rattle.sf_own.specs.Checked.LawsOfNeeds.{SharesAreThere}
+use Rattle.sf_own.specs.Checked.Safe.{IsSafe}
 use Rattle.sf_part.specs.Answers.{Answers}
-use Rattle.sf_part.specs.Checked.LawsOfGoing.{ChildrenArePastSetup, ChildrenGoOn, ForksHalve}
+use Rattle.sf_part.specs.Checked.LawsOfGoing.{ChildrenArePastSetup, ChildrenGoOn, ForksHalve, IsPastSetup}
 use Rattle.sf_part.specs.declared.local.Local.TheVariants.{AtFork}
 use Rattle.sf_part.specs.Forking.{HasNoShares}
 use Rattle.sf_part.specs.Going.{GoesTo, HaveGoneOn}
@@ -28,6 +29,7 @@ use Rattle.sf_part.specs.Steps.{IsChild, Joins}
 use Rattle.sf_region.specs.declared.views.Begun.{Begun}
 use Rattle.sf_region.specs.Meeting.{HasNoMisses, IsAtRest}
 use Rattle.sf_region.specs.Waits.{program_in}
+use Rattle.sf_safe.specs.Checked.Contract.{Known}
 use Rattle.sf_threads.proofs.Moves.{running-on}
 use Rattle.sf_threads.specs.Checked.Laws.{RunLaws}
 use Rattle.sf_threads.specs.Checked.Parting.{HasParted, MayMeet}
@@ -101,6 +103,22 @@ module _ (laws : RunLaws) (p : Program) (accepted : IsAccepted p) (t : TableId �
         (half-room (length (numbers (part_of c.1).part.supply))
         (length (numbers (part_of k.1).part.supply)) (length (part_of k.1).part.task) half h.room)
 
+    child-runs : (c : Seen) (turn : Turn) → IsChild (part_of w.1).part turn (part_of c.1).part
+        → c.0.0 ≡ k.0.0 → c.0.1.begun ≡ k.0.1.begun
+        → (owed : Known) → IsSafe p owed (part_of c.1).part → IsPastSetup p (part_of c.1).part
+        → 2 * length (numbers (part_of c.1).part.supply) ≤ length (numbers (part_of k.1).part.supply)
+        → HasNoMisses c.0.1 c.1 → IsRunning p t c
+    child-runs c turn is table begun owed safe past half fresh = record {
+      table = table ∙ h.table;
+      begun = begun ∙ h.begun;
+      program = h.program;
+      owed = owed;
+      safe = safe;
+      past = past;
+      room = room-of c turn is half;
+      fresh = fresh;
+    }
+
     pub fork-parted : HaveGoneOn p (part_of k.1) (part_of w.1) (part_of l.1) (part_of r.1)
         → (w.0.0 ≡ k.0.0) × (l.0.0 ≡ k.0.0) × (r.0.0 ≡ k.0.0)
         → (w.0.1.begun ≡ k.0.1.begun) × (l.0.1.begun ≡ k.0.1.begun) × (r.0.1.begun ≡ k.0.1.begun)
@@ -120,26 +138,8 @@ module _ (laws : RunLaws) (p : Program) (accepted : IsAccepted p) (t : TableId �
         record {
           gone = gone;
           rests = record { table = tables.0 ∙ h.table; begun = begun.0 ∙ h.begun; rest = rests.0 };
-          left = record {
-            table = tables.1 ∙ h.table;
-            begun = begun.1 ∙ h.begun;
-            program = h.program;
-            owed = safe.left;
-            safe = safe.first;
-            past = past.0;
-            room = room-of l _ left half.0;
-            fresh = fresh.0;
-          };
-          right = record {
-            table = tables.2 ∙ h.table;
-            begun = begun.2 ∙ h.begun;
-            program = h.program;
-            owed = safe.right;
-            safe = safe.second;
-            past = past.1;
-            room = room-of r _ right half.1;
-            fresh = fresh.1;
-          };
+          left = child-runs l _ left tables.1 begun.1 safe.left safe.first past.0 half.0 fresh.0;
+          right = child-runs r _ right tables.2 begun.2 safe.right safe.second past.1 half.1 fresh.1;
           later = (let n = forks.notes.clock_is in omega arith);
           left_deeper = deeper l _ left;
           right_deeper = deeper r _ right;
@@ -182,16 +182,6 @@ module _ (p : Program) (t : TableId × Begun) (k w l r : Seen) (m : MayMeet p t 
         goes = go;
         later = (let n = e.notes.clock_is in omega arith);
       }
-
--- the left one has a unit
-pub unit-left : (ns ms : List ℕ) → ns ≢ [] → IsTrue true ↔ (ns ++ ms ≢ [])
-unit-left [] ms some = absurd (some refl)
-unit-left (n ∷ ns) ms some = ((λ _. λ e. cc), λ _. refl)
-
--- the right one does where the left one hasn't
-pub unit-right : (ns ms : List ℕ) (b : Bool) → ns ≡ [] → IsTrue b ↔ (ms ≢ [])
-    → IsTrue b ↔ (ns ++ ms ≢ [])
-unit-right ns ms b none told = subst (λ z. IsTrue b ↔ (z ++ ms ≢ [])) (sym none) told
 
 -- where a join has come to something, the task has moved
 pub if-moved : (p : Program) (t : TableId × Begun) (k w l r : Seen) (e : Result Seen Stop)

@@ -1,6 +1,6 @@
 //! The parallel calls of a task.
 
-ghost use Rattle.std.specs.Prelude.{◌≡◌, ◌≢◌, ◌↔◌, ◌<◌, ◌++◌, [], Err, IfErr, IfOk, IsTrue, Ok};
+ghost use Rattle.std.specs.Prelude.{◌≡◌, ◌<◌, ◌++◌, [], Err, IfErr, IfOk, Ok};
 ghost use Rattle.std.specs.Thread.{IsSync};
 ghost use Rattle.sf_core.specs.Machine.Whole.{numbers};
 ghost use Rattle.sf_core.specs.Program.ProgramView.{program_of};
@@ -174,24 +174,13 @@ fn meet<'c, 'p, G: Gate>(
     ensures stopped { IfErr result (Says crew.now.regions.now.1 crew.now.waits) }
 {
     run_laws();
-    if !has_unit(&left, &right) {
+    if !left.has_unit_or(&right) {
         return Err(spent_join(crew, waits, left, right));
     }
     match waits.join(crew.program, crew.regions, left, right) {
         Ok(joined) => Ok(joined),
         Err(_) => Err(Stop::OutOfMemory),
     }
-}
-
-/// Whether one of two children has a unit left, for their join.
-fn has_unit<'p>(left: &Task<'p>, right: &Task<'p>) -> bool
-    ensures { IsTrue result ↔ (numbers (part_of left.now.1).part.supply
-        ++ numbers (part_of right.now.1).part.supply ≢ []) }
-{
-    if left.has_unit() {
-        return true;
-    }
-    right.has_unit()
 }
 
 /// The stop of a task whose children have ended, and left it no unit for their join.

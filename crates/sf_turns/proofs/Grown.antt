@@ -1,7 +1,7 @@
 -- Trees of tasks that go on.
 -- Names: `EVENT-WHAT`, what is so after the event.
 use Rattle.std.specs.Prelude.{◌≡◌, ◌+◌, ◌<◌, ℕ}
-use Rattle.std.proofs.Common.{arith, subst}
+use Rattle.std.proofs.Common.{arith, subst, sym}
 use Rattle.sf_part.specs.Checked.LawsOfGoing.{ChildrenGoOn, GoingComposes}
 use Rattle.sf_precise.specs.declared.arranged.Arranged.{Arranged}
 use Rattle.sf_turns.proofs.Parted.{parted-on}
@@ -24,6 +24,13 @@ left-falls l r = omega arith
 
 pub right-falls : (l r : ℕ) → r < l + r + 1
 right-falls l r = omega arith
+
+-- a tree that is the child of another has fewer, where the child has
+pub falls-alike : {tree whole left child : TaskTree} → tree ≡ whole → left ≡ child
+    → forks_in child < forks_in whole → forks_in left < forks_in tree
+falls-alike {tree} {whole} {left} {child} is same less =
+    subst (λ (z : TaskTree). forks_in left < forks_in z) (sym is)
+    (subst (λ (z : TaskTree). forks_in z < forks_in whole) (sym same) less)
 
 module _ (a : Arranged) (t : Table) where
   -- a task has gone on, and forks then

@@ -1,4 +1,3 @@
 pub mod Grown
 pub mod Parted
 pub mod Seats
-pub mod Units

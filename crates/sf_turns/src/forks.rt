@@ -1,8 +1,6 @@
 //! A task that forks, the turns of its two children, and their join.
 
-ghost use Rattle.std.specs.Prelude.{◌≡◌, ◌≢◌, ◌++◌, ◌↔◌, [], IfOk, IfSome, IsTrue};
-ghost use Rattle.sf_core.specs.Machine.Whole.{numbers};
-ghost use Rattle.sf_part.specs.PartView.{part_of};
+ghost use Rattle.std.specs.Prelude.{IfOk, IfSome};
 ghost use Rattle.sf_turns.specs.Checked.Parting.{HasParted, IsEntryParted, MayJoin};
 ghost use Rattle.sf_turns.specs.Checked.Seats.{HasGone, IsEntryAt, RunsAt, Seen};
 
@@ -75,17 +73,6 @@ pub fn turn_of<'p>(
     }
 }
 
-/// Whether one of two tasks has a unit left.
-fn has_either<'p>(left: &Task<'p>, right: &Task<'p>) -> bool
-    ensures { IsTrue result ↔ (numbers (part_of left.now.1).part.supply
-        ++ numbers (part_of right.now.1).part.supply ≢ []) }
-{
-    if left.has_unit() {
-        return true;
-    }
-    right.has_unit()
-}
-
 /// The three tasks, if both children have ended.
 fn both_ended<'p>(
     parted: Parted<'p>,
@@ -120,7 +107,7 @@ fn join_ended<'p>(
     going_composes();
     going_keeps_running();
     let Parted { waits, left, right } = parted;
-    if !has_either(&left, &right) {
+    if !left.has_unit_or(&right) {
         return Ok(None);
     }
     let joined = waits.join(p, regions, left, right)?;

@@ -19,11 +19,47 @@ use Rattle.sf_core.specs.declared.command.Expr.{Expr}
 use Rattle.sf_core.specs.declared.command.Expr.TheVariants.{Var as Variable, Nil, Int}
 use Rattle.sf_core.specs.Assertions.Sat.{IsTrueOf}
 use Rattle.sf_core.specs.Machine.Config.{Item, command, items, leave}
-use Rattle.sf_core.specs.Program.Syntax.{Call, assign, look_up, mutate, new, dispose, if, while, call, fork, with, Program}
+use Rattle.sf_core.specs.Program.Syntax.{Call, assign, look_up, mutate, new, dispose, if, while, call, fork, with, Procedure, Program}
 use Rattle.sf_safe.specs.Checked.Local.{ComesBack, HasIn, HasInAll, HasInTest, HasVar, Lends, Local, LocalParts, arguments_in, look, put_local, put_variable}
-use Rattle.sf_safe.specs.Checked.LocalSafe.{HasCell, LocalSafe}
+use Rattle.sf_safe.specs.Checked.LocalSafe.{HasCell, LocalCalls, LocalForks, LocalSafe}
 
 module _ (p : Program) where
+  -- a call after which the frame goes on in one way, where that way comes to another
+  pub calls-weaker : {l : Local} {c : Call} {g : Procedure} {A B : Local → Type 0} (a : LocalCalls p l c g A)
+      → ((back after : Local) → ComesBack p c g (arguments_in l c) back → LocalParts after back a.kept
+      → A after → B after)
+      → LocalCalls p l c g B
+  calls-weaker a go = record {
+    fits = a.fits;
+    lent = a.lent;
+    kept = a.kept;
+    parts = a.parts;
+    lends = a.lends;
+    goes_on = λ back after b q. go back after b q (a.goes_on back after b q);
+  }
+
+  -- the same of two calls
+  pub forks-weaker : {l : Local} {c d : Call} {g h : Procedure} {A B : Local → Type 0}
+      (a : LocalForks p l c d g h A)
+      → ((one two back after : Local) → ComesBack p c g (arguments_in l c) one
+      → ComesBack p d h (arguments_in l d) two → LocalParts back one two → LocalParts after back a.kept
+      → A after → B after)
+      → LocalForks p l c d g h B
+  forks-weaker a go = record {
+    fits_left = a.fits_left;
+    fits_right = a.fits_right;
+    lent = a.lent;
+    left = a.left;
+    right = a.right;
+    kept = a.kept;
+    parts = a.parts;
+    apart = a.apart;
+    lends_left = a.lends_left;
+    lends_right = a.lends_right;
+    goes_on = λ one two back after b o both q.
+        go one two back after b o both q (a.goes_on one two back after b o both q);
+  }
+
   -- what is safe for more events is so for fewer
   pub local-fewer : (n : ℕ) (End : Local → Type 0) (todo : List Item) (l : Local)
       → LocalSafe p (suc n) End todo l → LocalSafe p n End todo l
@@ -47,33 +83,12 @@ module _ (p : Program) where
     this = λ t. local-fewer n End (items body ++ (command (while place test kept body) ∷ rest)) l (s.this t);
     that = λ t. local-fewer n End rest l (s.that t);
   }
-  local-fewer (suc n) End (command (call place c) ∷ rest) l s = (
-    s.0,
-    λ g i. let a = s.1 g i in record {
-      fits = a.fits;
-      lent = a.lent;
-      kept = a.kept;
-      parts = a.parts;
-      lends = a.lends;
-      goes_on = λ back after b q. local-fewer n End rest after (a.goes_on back after b q);
-    },
-  )
+  local-fewer (suc n) End (command (call place c) ∷ rest) l s =
+      (s.0, λ g i. calls-weaker (s.1 g i) (λ back after b q. local-fewer n End rest after))
   local-fewer (suc n) End (command (fork place c d) ∷ rest) l s = (
     s.0,
     s.1,
-    λ g h i j. let a = s.2 g h i j in record {
-      fits_left = a.fits_left;
-      fits_right = a.fits_right;
-      lent = a.lent;
-      left = a.left;
-      right = a.right;
-      kept = a.kept;
-      parts = a.parts;
-      apart = a.apart;
-      lends_left = a.lends_left;
-      lends_right = a.lends_right;
-      goes_on = λ one two back after x y q r. local-fewer n End rest after (a.goes_on one two back after x y q r);
-    },
+    λ g h i j. forks-weaker (s.2 g h i j) (λ one two back after x y q r. local-fewer n End rest after),
   )
   local-fewer (suc n) End (command (with place r test body) ∷ rest) l s = record {
     there = s.there;
@@ -121,33 +136,14 @@ module _ (p : Program) where
   }
   local-append (suc n) Mid End (command (call place c) ∷ todo) rest l h s = (
     s.0,
-    λ g i. let a = s.1 g i in record {
-      fits = a.fits;
-      lent = a.lent;
-      kept = a.kept;
-      parts = a.parts;
-      lends = a.lends;
-      goes_on = λ back after b q. local-append n Mid End todo rest after (λ m i. local-fewer n End rest m (h m i))
-          (a.goes_on back after b q);
-    },
+    λ g i. calls-weaker (s.1 g i) (λ back after b q.
+        local-append n Mid End todo rest after (λ m i. local-fewer n End rest m (h m i))),
   )
   local-append (suc n) Mid End (command (fork place c d) ∷ todo) rest l h s = (
     s.0,
     s.1,
-    λ g o i j. let a = s.2 g o i j in record {
-      fits_left = a.fits_left;
-      fits_right = a.fits_right;
-      lent = a.lent;
-      left = a.left;
-      right = a.right;
-      kept = a.kept;
-      parts = a.parts;
-      apart = a.apart;
-      lends_left = a.lends_left;
-      lends_right = a.lends_right;
-      goes_on = λ one two back after x y q r. local-append n Mid End todo rest after
-          (λ m i. local-fewer n End rest m (h m i)) (a.goes_on one two back after x y q r);
-    },
+    λ g o i j. forks-weaker (s.2 g o i j) (λ one two back after x y q r.
+        local-append n Mid End todo rest after (λ m i. local-fewer n End rest m (h m i))),
   )
   local-append (suc n) Mid End (command (with place r test body) ∷ todo) rest l h s = record {
     there = s.there;

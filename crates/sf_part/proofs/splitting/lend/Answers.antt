@@ -1,5 +1,4 @@
 use Rattle.std.proofs.Common.{Err, ap, ◌≡◌, subst, sym}
-use Rattle.sf_core.specs.Machine.Config.{Common}
 use Rattle.sf_core.specs.Program.ProgramView.{program_of}
 use Rattle.sf_foot.specs.Starting.{HasWidth}
 use Rattle.sf_frame.specs.Checked.Effects.{IsSameCommon, opened}
@@ -10,31 +9,25 @@ use Rattle.sf_part.specs.Checked.Children.{HasNoneLent, HasVariablesOf}
 use Rattle.sf_part.specs.Checked.Splitting.{forked_of}
 use Rattle.sf_part.specs.declared.fault.PartFault.TheVariants.{NoFootprint}
 use Rattle.sf_part.proofs.Opened.{opened-closed}
-use Rattle.sf_part.proofs.Performed.{same-common}
+use Rattle.sf_part.proofs.Performed.{same-common, same-store}
 use Rattle.sf_part.proofs.splitting.lend.Goals as goal
 
 pub lend_opened-requires-clause-left_first : goal.lend_opened-requires-clause-left_first
 lend_opened-requires-clause-left_first c =
-    let p = program_of c.args.p.now.program in
-    let first = c.requires.first in
-    let same = same-common (common_of c.apply.new.shared)
-    (forked_of c.args.fork (common_of c.args.shared.now)) c.in_default.ensures.ok in (
+    let first = c.requires.first in (
       first.left,
       first.left_first,
-      subst (λ (z : Common). HasVariablesOf p (frame_of c.args.fork.left.frame) first.left z.store)
-          (sym same) first.left_there,
+      same-store (HasVariablesOf (program_of c.args.p.now.program)
+          (frame_of c.args.fork.left.frame) first.left) c.in_default.ensures.ok first.left_there,
     )
 
 pub lend_opened-requires-clause-right_first : goal.lend_opened-requires-clause-right_first
 lend_opened-requires-clause-right_first c =
-    let p = program_of c.args.p.now.program in
-    let first = c.requires.first in
-    let same = same-common (common_of c.apply.new.shared)
-    (forked_of c.args.fork (common_of c.args.shared.now)) c.in_default.ensures.ok in (
+    let first = c.requires.first in (
       first.right,
       first.right_first,
-      subst (λ (z : Common). HasVariablesOf p (frame_of c.args.fork.right.frame) first.right
-          z.store) (sym same) first.right_there,
+      same-store (HasVariablesOf (program_of c.args.p.now.program)
+          (frame_of c.args.fork.right.frame) first.right) c.in_default.ensures.ok first.right_there,
     )
 
 pub returns-in-Ok-clause-ok : goal.returns-in-Ok-clause-ok

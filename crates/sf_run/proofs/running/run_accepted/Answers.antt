@@ -2,14 +2,25 @@ use Rattle.std.proofs.Common.{[], ◌≡◌, ◌∙◌, ap, arith, sym}
 use Rattle.std.proofs.lemmas.List.{length-map}
 use Rattle.std.proofs.lemmas.Option.{slice_get_within}
 use Rattle.sf_core.specs.Program.ProgramView.{program_of}
+use Rattle.sf_core.specs.Program.Syntax.{Program}
 use Rattle.sf_core.specs.Program.View.{procedure_of}
 use Rattle.sf_part.specs.Checked.LawsOfGoing.{GoingKeepsPath}
 use Rattle.sf_part.specs.declared.part.Part.{Part}
+use Rattle.sf_part.specs.Going.{GoesTo}
 use Rattle.sf_part.specs.PartView.{part_of}
 use Rattle.sf_run.proofs.Alone.{alone-ends}
 use Rattle.sf_run.proofs.Playing.{play-closed, play-logged}
 use Rattle.sf_run.proofs.Stops.{stop-alone, stop-is, unready-alone}
 use Rattle.sf_run.proofs.running.run_accepted.Goals as goal
+
+-- the task that began at the root stands there at its end
+entry-there : {first opened : Part} → GoingKeepsPath → (p : Program) (last : Part)
+    → first ≡ opened → (part_of first).part.task ≡ []
+    → GoesTo p (part_of opened) (part_of last) → (part_of last).part.task ≡ []
+unfolding GoingKeepsPath
+entry-there {first} {opened} keeps p last same root goes =
+    keeps p (part_of opened) (part_of last) goes
+    ∙ (ap (λ (z : Part). (part_of z).part.task) (sym same) ∙ root)
 
 pub returns-in-Err-clause-stops_alone : goal.returns-in-Err-clause-stops_alone
 returns-in-Err-clause-stops_alone g c = λ n. unready-alone (program_of c.args.p.now.program) c.args.f
@@ -38,22 +49,16 @@ close-requires-clause-procedure g c =
     omega (arith, below, length-map c.args.p.now.program.procedures.items procedure_of)
 
 pub close-requires-clause-entry : goal.close-requires-clause-entry
-unfolding GoingKeepsPath
-close-requires-clause-entry g c = c.going_keeps_path.ensures (program_of c.args.p.now.program)
-    (part_of c.in-Ok.opened.1.1) (part_of c.in-Ok-run_tasks.last.1)
+close-requires-clause-entry g c =
+    entry-there c.going_keeps_path.ensures (program_of c.args.p.now.program)
+    c.in-Ok-run_tasks.last.1 c.in-Ok.ensures.first ((c.in-Ok.ensures.opened).prepared).task
     (c.in-Ok-run_tasks.ensures.ended).goes
-    ∙ (ap (λ (z : Part). (part_of z).part.task) (sym c.in-Ok.ensures.first)
-    ∙ ((c.in-Ok.ensures.opened).prepared).task)
 
 pub returns-in-Ok-close-clause-ends : goal.returns-in-Ok-close-clause-ends
-unfolding GoingKeepsPath
 returns-in-Ok-close-clause-ends g c =
-    let entry : (part_of c.in-Ok-run_tasks.last.1).part.task ≡ [] =
-    c.going_keeps_path.ensures (program_of c.args.p.now.program)
-    (part_of c.in-Ok.opened.1.1) (part_of c.in-Ok-run_tasks.last.1)
-    (c.in-Ok-run_tasks.ensures.ended).goes
-    ∙ (ap (λ (z : Part). (part_of z).part.task) (sym c.in-Ok.ensures.first)
-    ∙ ((c.in-Ok.ensures.opened).prepared).task) in
+    let entry = entry-there c.going_keeps_path.ensures (program_of c.args.p.now.program)
+    c.in-Ok-run_tasks.last.1 c.in-Ok.ensures.first ((c.in-Ok.ensures.opened).prepared).task
+    (c.in-Ok-run_tasks.ensures.ended).goes in
     play-closed c.running_parts_run.ensures (program_of c.args.p.now.program) c.args.f
     c.args.start.fresh c.args.start.vars c.args.start.heap c.args.start.unit
     c.args.budget.steps c.in-Ok.opened.0.1 c.in-Ok-run_tasks.last.0.1.begun c.in-Ok.ensures.opened
@@ -62,14 +67,10 @@ returns-in-Ok-close-clause-ends g c =
     (c.in-Ok-run_tasks.ensures.ended).done entry
 
 pub returns-in-Ok-close-clause-ends_alone : goal.returns-in-Ok-close-clause-ends_alone
-unfolding GoingKeepsPath
 returns-in-Ok-close-clause-ends_alone g c = λ n.
-    let entry : (part_of c.in-Ok-run_tasks.last.1).part.task ≡ [] =
-    c.going_keeps_path.ensures (program_of c.args.p.now.program)
-    (part_of c.in-Ok.opened.1.1) (part_of c.in-Ok-run_tasks.last.1)
-    (c.in-Ok-run_tasks.ensures.ended).goes
-    ∙ (ap (λ (z : Part). (part_of z).part.task) (sym c.in-Ok.ensures.first)
-    ∙ ((c.in-Ok.ensures.opened).prepared).task) in
+    let entry = entry-there c.going_keeps_path.ensures (program_of c.args.p.now.program)
+    c.in-Ok-run_tasks.last.1 c.in-Ok.ensures.first ((c.in-Ok.ensures.opened).prepared).task
+    (c.in-Ok-run_tasks.ensures.ended).goes in
     alone-ends (program_of c.args.p.now.program) c.args.f
     c.args.start.fresh c.args.start.vars c.args.start.heap c.args.start.parts.items
     c.args.start.unit c.args.budget.steps n c.requires.starts c.in-Ok-close.ended.0
@@ -81,14 +82,10 @@ returns-in-Ok-close-clause-ends_alone g c = λ n.
     (c.in-Ok-run_tasks.ensures.ended).done entry)
 
 pub returns-in-Ok-close-clause-log : goal.returns-in-Ok-close-clause-log
-unfolding GoingKeepsPath
 returns-in-Ok-close-clause-log g c = λ kept.
-    let entry : (part_of c.in-Ok-run_tasks.last.1).part.task ≡ [] =
-    c.going_keeps_path.ensures (program_of c.args.p.now.program)
-    (part_of c.in-Ok.opened.1.1) (part_of c.in-Ok-run_tasks.last.1)
-    (c.in-Ok-run_tasks.ensures.ended).goes
-    ∙ (ap (λ (z : Part). (part_of z).part.task) (sym c.in-Ok.ensures.first)
-    ∙ ((c.in-Ok.ensures.opened).prepared).task) in
+    let entry = entry-there c.going_keeps_path.ensures (program_of c.args.p.now.program)
+    c.in-Ok-run_tasks.last.1 c.in-Ok.ensures.first ((c.in-Ok.ensures.opened).prepared).task
+    (c.in-Ok-run_tasks.ensures.ended).goes in
     play-logged c.running_parts_run.ensures c.tables_go_on_with_logs.ensures (program_of c.args.p.now.program) c.args.f
     c.args.start.fresh c.args.start.vars c.args.start.heap c.args.start.unit
     c.args.budget.steps c.in-Ok.opened.0.1 c.in-Ok-run_tasks.last.0.1.begun c.in-Ok.ensures.opened

@@ -2,7 +2,8 @@ use Rattle.std.proofs.Common.{subst}
 use Rattle.sf_core.specs.Machine.Whole.{numbers}
 use Rattle.sf_core.specs.Program.ProgramView.{program_of}
 use Rattle.sf_part.specs.PartView.{IsPartOf, part_of}
-use Rattle.sf_threads.proofs.Moves.{going-fork, no-unit, program-at}
+use Rattle.sf_region.proofs.Units.{no-unit}
+use Rattle.sf_threads.proofs.Moves.{going-fork, program-at}
 use Rattle.sf_threads.proofs.Parted.{fork-parted, fork-shares}
 use Rattle.sf_threads.proofs.forks.part.Goals as goal
 

@@ -1,7 +1,8 @@
 use Rattle.sf_core.specs.Machine.Whole.{numbers}
 use Rattle.sf_core.specs.Program.ProgramView.{program_of}
 use Rattle.sf_part.specs.PartView.{part_of}
-use Rattle.sf_threads.proofs.Moves.{going-exit, moved-left, no-lack, no-unit}
+use Rattle.sf_region.proofs.Units.{no-unit}
+use Rattle.sf_threads.proofs.Moves.{going-exit, moved-left, no-lack}
 use Rattle.sf_threads.proofs.tasks.leave.Goals as goal
 
 pub spent-requires-clause-going : goal.spent-requires-clause-going

@@ -1,7 +1,8 @@
 use Rattle.sf_core.specs.Machine.Whole.{numbers}
 use Rattle.sf_core.specs.Program.ProgramView.{program_of}
 use Rattle.sf_part.specs.PartView.{part_of}
-use Rattle.sf_threads.proofs.Moves.{going-region, no-unit}
+use Rattle.sf_region.proofs.Units.{no-unit}
+use Rattle.sf_threads.proofs.Moves.{going-region}
 use Rattle.sf_threads.proofs.Trying.{tries-none, trying-at}
 use Rattle.sf_threads.proofs.tries.enter.Goals as goal
 

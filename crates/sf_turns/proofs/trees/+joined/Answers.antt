@@ -1,22 +1,16 @@
 use Rattle.std.specs.Prelude.{◌+◌, ◌<◌}
 use Rattle.std.proofs.Common.{arith, rules, subst, sym}
 use Rattle.sf_base.proofs.Results.{ok-some}
-use Rattle.sf_turns.proofs.Grown.{forks_in, left-falls, right-falls}
+use Rattle.sf_turns.proofs.Grown.{falls-alike, forks_in, left-falls, right-falls}
 use Rattle.sf_turns.specs.Checked.Seats.{Seen}
 use Rattle.sf_turns.specs.Checked.Trees.{HasBranched, HasGrown}
-use Rattle.sf_turns.specs.declared.trees.TaskTree.{TaskTree}
 use Rattle.sf_turns.proofs.trees.+joined.Goals as goal
 
 pub joined-requires : goal.joined-requires
 joined-requires t c =
     let h = rw c.in-Waits.is at c.requires.1 in
-    let falls =
-    subst (λ (z : TaskTree). forks_in c.into_inner-left.result < forks_in z) (sym c.in-Waits.is)
-    (subst
-    (λ (z : TaskTree). forks_in z < forks_in c.in-Waits.left.value + forks_in c.in-Waits.right.value + 1)
-    (sym c.into_inner-left.ensures)
-    (left-falls (forks_in c.in-Waits.left.value) (forks_in c.in-Waits.right.value)))
-    in (
+    let falls = falls-alike c.in-Waits.is c.into_inner-left.ensures
+    (left-falls (forks_in c.in-Waits.left.value) (forks_in c.in-Waits.right.value)) in (
       search (rules, arith, falls),
       (h.0, subst (HasGrown c.args.p.now c.args.regions.now h.0) (sym c.into_inner-left.ensures) h.3),
     )
@@ -69,13 +63,8 @@ returns-then-due-eq0 t c =
 pub joined-requires-2 : goal.joined-requires-2
 joined-requires-2 t c =
     let h = rw c.in-Waits.is at c.requires.1 in
-    let falls =
-    subst (λ (z : TaskTree). forks_in c.into_inner-right.result < forks_in z) (sym c.in-Waits.is)
-    (subst
-    (λ (z : TaskTree). forks_in z < forks_in c.in-Waits.left.value + forks_in c.in-Waits.right.value + 1)
-    (sym c.into_inner-right.ensures)
-    (right-falls (forks_in c.in-Waits.left.value) (forks_in c.in-Waits.right.value)))
-    in (
+    let falls = falls-alike c.in-Waits.is c.into_inner-right.ensures
+    (right-falls (forks_in c.in-Waits.left.value) (forks_in c.in-Waits.right.value)) in (
       search (rules, arith, falls),
       (h.1, subst (HasGrown c.args.p.now c.args.regions.now h.1) (sym c.into_inner-right.ensures) h.4),
     )

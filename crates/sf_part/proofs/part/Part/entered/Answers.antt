@@ -3,40 +3,31 @@ use Rattle.sf_base.proofs.Options.{is_some-false}
 use Rattle.sf_base.specs.declared.limits.TheConstants.{STEPS}
 use Rattle.sf_core.specs.Machine.Config.{Common}
 use Rattle.sf_core.specs.Machine.Step.{set_holder}
-use Rattle.sf_core.specs.Machine.Whole.{running, numbers}
+use Rattle.sf_core.specs.Machine.Whole.{numbers}
 use Rattle.sf_frame.specs.Checked.Effects.{IsSameCommon}
-use Rattle.sf_frame.specs.Checked.Frames.{moved}
 use Rattle.sf_frame.specs.Commons.{common_of, held_of}
 use Rattle.sf_frame.specs.declared.frame.Way.TheVariants.{Into}
 use Rattle.sf_frame.specs.declared.stack.Change.TheVariants.{GoOn}
 use Rattle.sf_part.specs.Checked.Stepping.{own_event}
 use Rattle.sf_part.specs.Contents.{content_of}
 use Rattle.sf_part.specs.Keeps.{IsWaiting}
-use Rattle.sf_part.specs.Of.{frames_in}
 use Rattle.sf_part.specs.Parts.{part_with}
 use Rattle.sf_part.specs.PartView.{part_of}
-use Rattle.sf_part.specs.Stands.{stand_in}
-use Rattle.sf_part.proofs.Performed.{performed-keeps, same-common}
+use Rattle.sf_part.proofs.Performed.{moved-stand, performed-keeps, same-common}
 use Rattle.sf_part.proofs.Taking.{taking-after, taking-freed, taking-own, taking-unmade}
-use Rattle.sf_part.proofs.Unchanged.{unchanged-kept, unchanged-own, unchanged-part}
+use Rattle.sf_part.proofs.Unchanged.{still-kept, still-own, still-part, unchanged-kept, unchanged-own, unchanged-part}
 use Rattle.sf_part.proofs.part.Part.entered.Goals.{After-edit}
 use Rattle.sf_part.proofs.part.Part.entered.Goals as goal
 
 pub invariant_of-self : goal.invariant_of-self
 invariant_of-self c =
-    let common : common_of c.apply.new.shared ≡ common_of c.args.self.now.shared =
-    same-common (common_of c.apply.new.shared) (common_of c.args.self.now.shared)
-    c.in-Err.ensures.err in
-    let a = c.args.self.now in record {
-      kept = unchanged-kept a a.stand c.apply.new.shared refl common;
-      own = unchanged-own a a.stand c.apply.new.shared refl common;
-    }
+    let a = c.args.self.now in
+    let same = c.in-Err.ensures.err in
+    record { kept = still-kept a c.apply.new.shared same; own = still-own a c.apply.new.shared same }
 
 pub returns-in-Err-clause-err : goal.returns-in-Err-clause-err
 returns-in-Err-clause-err c =
-    unchanged-part c.args.self.now c.args.self.now.stand c.apply.new.shared refl
-    (same-common (common_of c.apply.new.shared) (common_of c.args.self.now.shared)
-    c.in-Err.ensures.err)
+    still-part c.args.self.now c.apply.new.shared c.in-Err.ensures.err
 
 -- the resource is free again, and nothing else has changed
 freed : (c : After-edit) → IsSameCommon (common_of c.take_in.new.shared)
@@ -102,9 +93,7 @@ returns-clause-ok c =
       c.next-number.ensures,
       record {
         task = refl;
-        stand = c.changed.ensures
-            ∙ ap (λ z. running (moved (GoOn Into) (frames_in (stand_in z))))
-            c.replace-stand.ensures.value;
+        stand = moved-stand (GoOn Into) c.replace-stand.ensures.value c.changed.ensures;
         heap = taken.heap;
         store = taken.store;
         held = taken.held;

@@ -1,17 +1,14 @@
 use Rattle.std.proofs.Common.{ap, ◌∙◌, ◌∷◌, refl, subst, sym}
 use Rattle.sf_base.proofs.MapSplits.{splits-has_right}
-use Rattle.sf_core.specs.Machine.Whole.{running}
-use Rattle.sf_frame.specs.Checked.Frames.{moved}
 use Rattle.sf_frame.specs.Commons.{common_of}
 use Rattle.sf_frame.specs.Stores.{store_of}
 use Rattle.sf_frame.specs.declared.frame.Way.TheVariants.{Past}
 use Rattle.sf_frame.specs.declared.stack.Change.TheVariants.{GoOn}
 use Rattle.sf_heap.specs.Cells.{heap_of}
 use Rattle.sf_part.specs.Keeps.{IsWaiting}
-use Rattle.sf_part.specs.Of.{frames_in}
-use Rattle.sf_part.specs.Stands.{stand_in}
 use Rattle.sf_part.proofs.Acted.{acted-keeps}
 use Rattle.sf_part.proofs.GivenUp.{given-after, given-own, given-unmade}
+use Rattle.sf_part.proofs.Performed.{moved-stand}
 use Rattle.sf_part.proofs.part.Part.given_up.Goals as goal
 
 pub invariant_of-self : goal.invariant_of-self
@@ -53,9 +50,7 @@ returns-clause-given c =
         at = c.part_off-heap.ensures.locations;
         stamp = refl;
         task = refl;
-        stand = c.changed.ensures
-            ∙ ap (λ z. running (moved (GoOn Past) (frames_in (stand_in z))))
-            c.replace-stand.ensures.value;
+        stand = moved-stand (GoOn Past) c.replace-stand.ensures.value c.changed.ensures;
         heap = less.heap;
         store = less.store;
         held = less.held;

@@ -1,4 +1,4 @@
-use Rattle.std.proofs.Common.{ap, ◌∙◌, ◌+◌, ◌≡◌, refl, subst, sym, arith}
+use Rattle.std.proofs.Common.{ap, ◌∙◌, ◌+◌, refl, subst, sym, arith}
 use Rattle.sf_core.specs.Machine.Whole.{running}
 use Rattle.sf_frame.specs.Commons.{common_of}
 use Rattle.sf_part.specs.Checked.Stepping.{own_event}
@@ -8,26 +8,20 @@ use Rattle.sf_part.specs.Parts.{part_with}
 use Rattle.sf_part.specs.PartView.{part_of}
 use Rattle.sf_part.specs.Stands.{stand_in}
 use Rattle.sf_part.proofs.Joined.{emptied-keeps, emptied-own, joined-keeps, joined-log, joined-units, same-whole}
-use Rattle.sf_part.proofs.Performed.{on-err, same-common, same-own}
+use Rattle.sf_part.proofs.Performed.{on-err, same-own}
 use Rattle.sf_part.proofs.Regained.{three-same}
-use Rattle.sf_part.proofs.Unchanged.{unchanged-kept, unchanged-own, unchanged-part}
+use Rattle.sf_part.proofs.Unchanged.{still-kept, still-own, still-part}
 use Rattle.sf_part.proofs.part.Part.joined.Goals as goal
 
 pub invariant_of-self : goal.invariant_of-self
 invariant_of-self c =
-    let common : common_of c.take_back.new.shared ≡ common_of c.args.self.now.shared =
-    same-common (common_of c.take_back.new.shared) (common_of c.args.self.now.shared)
-    c.in_err-take_back.ensures.err in
-    let a = c.args.self.now in record {
-      kept = unchanged-kept a a.stand c.take_back.new.shared refl common;
-      own = unchanged-own a a.stand c.take_back.new.shared refl common;
-    }
+    let a = c.args.self.now in
+    let same = c.in_err-take_back.ensures.err in
+    record { kept = still-kept a c.take_back.new.shared same; own = still-own a c.take_back.new.shared same }
 
 pub returns-in_err-take_back-clause-err : goal.returns-in_err-take_back-clause-err
 returns-in_err-take_back-clause-err c = on-err c.from_residual.result
-    (unchanged-part c.args.self.now c.args.self.now.stand c.take_back.new.shared refl
-    (same-common (common_of c.take_back.new.shared) (common_of c.args.self.now.shared)
-    c.in_err-take_back.ensures.err))
+    (still-part c.args.self.now c.take_back.new.shared c.in_err-take_back.ensures.err)
 
 pub returns-in_err-take_back-clause-children : goal.returns-in_err-take_back-clause-children
 returns-in_err-take_back-clause-children c = on-err c.from_residual.result (

@@ -6,9 +6,8 @@ use Rattle.sf_frame.specs.Commons.{common_of}
 use Rattle.sf_part.specs.Checked.Stepping.{acted}
 use Rattle.sf_part.specs.Keeps.{IsUnmade, IsWaiting}
 use Rattle.sf_part.specs.Of.{frames_in}
-use Rattle.sf_part.specs.Stands.{stand_in}
 use Rattle.sf_part.proofs.Acted.{acted-keeps}
-use Rattle.sf_part.proofs.Performed.{on-err, same-common, same-own}
+use Rattle.sf_part.proofs.Performed.{moved-stand, on-err, same-common, same-own}
 use Rattle.sf_part.proofs.Unchanged.{unchanged-kept, unchanged-own, unchanged-part}
 use Rattle.sf_part.proofs.part.Part.perform.Goals as goal
 
@@ -47,9 +46,7 @@ invariant_of-self-2 c =
 pub returns-clause-ok : goal.returns-clause-ok
 returns-clause-ok c = record {
   task = refl;
-  stand = c.changed.ensures
-      ∙ ap (λ z. running (moved c.args.change (frames_in (stand_in z))))
-      c.replace-stand.ensures.value
+  stand = moved-stand c.args.change c.replace-stand.ensures.value c.changed.ensures
       ∙ ap (λ z. running (moved c.args.change (frames_in z))) c.reserve.ensures.same;
   common = same-common (common_of c.apply.new.shared)
       (acted c.args.self.now c.args.number c.args.effect)

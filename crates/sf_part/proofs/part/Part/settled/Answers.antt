@@ -1,9 +1,7 @@
 use Rattle.std.specs.List.{AllByRecursion}
 use Rattle.std.proofs.Common.{Err, ap, ◌∙◌, ◌+◌, ◌≡◌, ◌∷◌, length, refl, reverse, subst, sym, arith}
 use Rattle.std.proofs.lemmas.List.{reverse-reverse}
-use Rattle.sf_core.specs.Machine.Whole.{running}
 use Rattle.sf_core.specs.Program.ProgramView.{program_of}
-use Rattle.sf_frame.specs.Checked.Frames.{moved}
 use Rattle.sf_frame.specs.Commons.{common_of}
 use Rattle.sf_frame.specs.Frames.{room_of}
 use Rattle.sf_frame.specs.declared.stack.Change.TheVariants.{Return}
@@ -15,12 +13,10 @@ use Rattle.sf_part.specs.Timed.{TimedContent}
 use Rattle.sf_part.specs.declared.content.Content.{Content}
 use Rattle.sf_part.specs.declared.fault.PartFault.TheVariants.{NoFootprint}
 use Rattle.sf_part.specs.Keeps.{IsWaiting}
-use Rattle.sf_part.specs.Of.{frames_in}
-use Rattle.sf_part.specs.Stands.{stand_in}
 use Rattle.sf_part.proofs.Acted.{acted-keeps}
 use Rattle.sf_part.proofs.HandedOut.{hands-held, hands-none, hands-rest, hands-unmade}
-use Rattle.sf_part.proofs.Performed.{same-common}
-use Rattle.sf_part.proofs.Unchanged.{unchanged-kept, unchanged-own, unchanged-part}
+use Rattle.sf_part.proofs.Performed.{moved-stand}
+use Rattle.sf_part.proofs.Unchanged.{still-kept, still-own, still-part}
 use Rattle.sf_part.proofs.part.Part.settled.Goals as goal
 
 pub give_from-requires-clause-apart : goal.give_from-requires-clause-apart
@@ -28,13 +24,9 @@ give_from-requires-clause-apart c = c.new-found.ensures.apart c.args.self.now.sh
 
 pub invariant_of-self : goal.invariant_of-self
 invariant_of-self c =
-    let common : common_of c.give_from.new.shared ≡ common_of c.args.self.now.shared =
-    same-common (common_of c.give_from.new.shared) (common_of c.args.self.now.shared)
-    c.in-Err.ensures.err in
-    let a = c.args.self.now in record {
-      kept = unchanged-kept a a.stand c.give_from.new.shared refl common;
-      own = unchanged-own a a.stand c.give_from.new.shared refl common;
-    }
+    let a = c.args.self.now in
+    let same = c.in-Err.ensures.err in
+    record { kept = still-kept a c.give_from.new.shared same; own = still-own a c.give_from.new.shared same }
 
 pub returns-in-Err-clause-none : goal.returns-in-Err-clause-none
 returns-in-Err-clause-none c = λ e.
@@ -44,9 +36,7 @@ returns-in-Err-clause-none c = λ e.
 
 pub returns-in-Err-clause-err : goal.returns-in-Err-clause-err
 returns-in-Err-clause-err c =
-    unchanged-part c.args.self.now c.args.self.now.stand c.give_from.new.shared refl
-    (same-common (common_of c.give_from.new.shared) (common_of c.args.self.now.shared)
-    c.in-Err.ensures.err)
+    still-part c.args.self.now c.give_from.new.shared c.in-Err.ensures.err
 
 pub invariant_of-self-2 : goal.invariant_of-self-2
 invariant_of-self-2 c =
@@ -90,9 +80,7 @@ returns-clause-ok c =
         store = rest.store;
         held = rest.held;
         task = refl;
-        stand = c.changed.ensures
-            ∙ ap (λ z. running (moved Return (frames_in (stand_in z))))
-            c.replace-stand.ensures.value;
+        stand = moved-stand Return c.replace-stand.ensures.value c.changed.ensures;
         supply = c.spend.ensures;
         clock = refl;
         keeps = refl;

@@ -7,7 +7,6 @@ use Rattle.sf_core.specs.Machine.Whole.{numbers, waiting}
 use Rattle.sf_core.specs.Program.ProgramView.{program_of}
 use Rattle.sf_foot.specs.Starting.{HasWidth}
 use Rattle.sf_frame.specs.Checked.Frames.{moved}
-use Rattle.sf_frame.specs.Commons.{common_of}
 use Rattle.sf_frame.specs.declared.frame.Way.TheVariants.{Past}
 use Rattle.sf_frame.specs.declared.stack.Change.TheVariants.{GoOn}
 use Rattle.sf_part.specs.Checked.Splitting.{begun_of}
@@ -23,8 +22,8 @@ use Rattle.sf_part.specs.Timed.{TimedPart}
 use Rattle.sf_part.proofs.Callees.{fork-first}
 use Rattle.sf_part.proofs.ForkMade.{Made, split-made, split-none}
 use Rattle.sf_part.proofs.ForkPlan.{plan-runs}
-use Rattle.sf_part.proofs.Performed.{same-common, same-own}
-use Rattle.sf_part.proofs.Unchanged.{unchanged-kept, unchanged-own, unchanged-part}
+use Rattle.sf_part.proofs.Performed.{same-own}
+use Rattle.sf_part.proofs.Unchanged.{still-kept, still-own, still-part}
 use Rattle.sf_part.proofs.part.Part.split_by.Goals.{After-note, In-Err-lend}
 use Rattle.sf_part.proofs.part.Part.split_by.Goals as goal
 
@@ -39,13 +38,9 @@ lend-requires-clause-first c = fork-first (program_of c.args.p.now.program)
 
 pub invariant_of-self : goal.invariant_of-self
 invariant_of-self c =
-    let common : common_of c.lend.new.shared ≡ common_of c.args.self.now.shared =
-    same-common (common_of c.lend.new.shared) (common_of c.args.self.now.shared)
-    c.in-Err-lend.ensures.err in
-    let a = c.args.self.now in record {
-      kept = unchanged-kept a a.stand c.lend.new.shared refl common;
-      own = unchanged-own a a.stand c.lend.new.shared refl common;
-    }
+    let a = c.args.self.now in
+    let same = c.in-Err-lend.ensures.err in
+    record { kept = still-kept a c.lend.new.shared same; own = still-own a c.lend.new.shared same }
 
 pub returns-in-Err-lend-clause-none : goal.returns-in-Err-lend-clause-none
 returns-in-Err-lend-clause-none c = λ e.
@@ -61,9 +56,7 @@ same : (c : In-Err-lend)
     → part_with c.args.self.now.task c.args.self.now.stand c.lend.new.shared c.args.self.now.supply
     c.args.self.now.clock c.args.self.now.keeps c.args.self.now.log.items c.args.self.now.given
     ≡ part_of c.args.self.now
-same c = unchanged-part c.args.self.now c.args.self.now.stand c.lend.new.shared refl
-    (same-common (common_of c.lend.new.shared) (common_of c.args.self.now.shared)
-    c.in-Err-lend.ensures.err)
+same c = still-part c.args.self.now c.lend.new.shared c.in-Err-lend.ensures.err
 
 pub returns-in-Err-lend-clause-err : goal.returns-in-Err-lend-clause-err
 returns-in-Err-lend-clause-err c =
