@@ -1,9 +1,10 @@
 -- Whether two resources are one of some pairs.
 -- Names: `WHAT-is`.
-use Rattle.std.specs.Prelude.{◌==◌, ◌&&◌, List, [], ◌∷◌, ◌++◌, All, Contains}
+use Rattle.std.specs.Prelude.{◌≡◌, ◌==◌, ◌&&◌, ℕ, ◌<◌, ◌+◌, List, [], ◌∷◌, ◌++◌, All, Contains, get_or, length, take}
 use Rattle.std.specs.Bool.{Decides}
-use Rattle.std.proofs.Common.{ap, ap₂, inl, inr, arith}
+use Rattle.std.proofs.Common.{sym, ap, ap₂, inl, inr, arith}
 use Rattle.std.proofs.lemmas.Bool.Decides.{Decides-and, Decides-or}
+use Rattle.std.proofs.lemmas.List.{take_more}
 use Rattle.std.proofs.lemmas.List.Elements.{All-append, All-cons}
 use Rattle.sf_base.proofs.Elements.{contains-cons, contains-nil}
 use Rattle.sf_base.proofs.Variables.{resource-decides}
@@ -35,3 +36,10 @@ all-push P es e h p = All-append P es (e ∷ []) h (All-cons P e [] p (λ k d l.
 -- the pair that stands for an element where there is none
 abbrev pub nothing : ResId × ResId
 nothing = (resource 0, resource 0)
+
+-- so it holds of what a walk over them has passed, with the pair where it stands
+pub all-next : (P : ResId × ResId → Type 0) (es items : List (ResId × ResId)) (i : ℕ) → items ≡ es → i < length items
+    → All P (take i es) → P (get_or items i nothing) → All P (take (i + 1) es)
+all-next P es items i same there h p =
+    rw (sym same, take_more items i nothing there)
+    (all-push P (take i items) (get_or items i nothing) (rw (sym same) at h) p)

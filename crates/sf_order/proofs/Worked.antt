@@ -92,56 +92,51 @@ chain-cases r s h = elim ((contains-cons (let t : ResId × ResId = (a, b) in t) 
   ]
 ]
 
+-- their ranks
+abbrev levels : List ℕ
+levels = 0 ∷ 1 ∷ 2 ∷ []
+
+-- which rise along each pair
+levels-rise : (r s : ResId) → IsPair chain r s → rank_in levels r < rank_in levels s
+levels-rise r s h = elim (chain-cases r s h) [
+  | inl k ↦
+      let low : rank_in levels r ≡ 0 = ap (rank_in levels) k.0 in
+      let high : rank_in levels s ≡ 1 = ap (rank_in levels) k.1 in
+      omega (arith, low, high)
+  | inr (inl k) ↦
+      let low : rank_in levels r ≡ 0 = ap (rank_in levels) k.0 in
+      let high : rank_in levels s ≡ 2 = ap (rank_in levels) k.1 in
+      omega (arith, low, high)
+  | inr (inr k) ↦
+      let low : rank_in levels r ≡ 1 = ap (rank_in levels) k.0 in
+      let high : rank_in levels s ≡ 2 = ap (rank_in levels) k.1 in
+      omega (arith, low, high)
+]
+
+-- so a resource with a pair from one of the rank below has its own
+levels-follow : (r s : ResId) → IsPair chain r s → rank_in levels s ≡ suc (rank_in levels r)
+    → IsOneMore (IsPair chain) (rank_in levels) s
+levels-follow r s h e = record {
+  below = r;
+  related = h;
+  is = e;
+  greatest = λ t i. let less : rank_in levels t < rank_in levels s = levels-rise t s i in omega (arith, less, e);
+}
+
+-- what ranks say of one resource
+abbrev Ranked : ResId → Type 0
+Ranked s = ((rank_in levels s ≡ 0) × ((r : ResId) → IsPair chain r s → ⊥))
+    ⊎ IsOneMore (IsPair chain) (rank_in levels) s
+
 pub chains_have_ranks : ChainsHaveRanks
 unfolding ChainsHaveRanks
 chains_have_ranks = record { each = refl; is = λ s l. at s.0 s refl l }
   where
-    at : (n : ℕ) (s : ResId) → s.0 ≡ n → s.0 < 3
-        → ((rank_in (0 ∷ 1 ∷ 2 ∷ []) s ≡ 0) × ((r : ResId) → IsPair chain r s → ⊥))
-        ⊎ IsOneMore (IsPair chain) (rank_in (0 ∷ 1 ∷ 2 ∷ [])) s
-    at zero s e l = subst (λ (t : ResId). ((rank_in (0 ∷ 1 ∷ 2 ∷ []) t ≡ 0) × ((r : ResId) → IsPair chain r t → ⊥))
-        ⊎ IsOneMore (IsPair chain) (rank_in (0 ∷ 1 ∷ 2 ∷ [])) t) (ap resource (sym e)) (inl (refl, none))
-      where
-        none : (r : ResId) → IsPair chain r a → ⊥
-        none r h = elim (chain-cases r a h) [
-          | inl k ↦ let n : 0 ≡ 1 = ap (λ (t : ResId). t.0) k.1 in omega (arith, n)
-          | inr k ↦ elim k [
-            | inl m ↦ let n : 0 ≡ 2 = ap (λ (t : ResId). t.0) m.1 in omega (arith, n)
-            | inr m ↦ let n : 0 ≡ 2 = ap (λ (t : ResId). t.0) m.1 in omega (arith, n)
-          ]
-        ]
-    at (suc zero) s e l = subst (λ (t : ResId). ((rank_in (0 ∷ 1 ∷ 2 ∷ []) t ≡ 0) × ((r : ResId) → IsPair chain r t → ⊥))
-        ⊎ IsOneMore (IsPair chain) (rank_in (0 ∷ 1 ∷ 2 ∷ [])) t) (ap resource (sym e)) (inr (record {
-          below = a;
-          related = found chain a b refl;
-          is = refl;
-          greatest = greatest;
-        }))
-      where
-        greatest : (r : ResId) → IsPair chain r b → rank_in (0 ∷ 1 ∷ 2 ∷ []) r ≤ 0
-        greatest r h = elim (chain-cases r b h) [
-          | inl k ↦ let n : rank_in (0 ∷ 1 ∷ 2 ∷ []) r ≡ 0 = ap (rank_in (0 ∷ 1 ∷ 2 ∷ [])) k.0 in omega arith
-          | inr k ↦ elim k [
-            | inl m ↦ let n : 1 ≡ 2 = ap (λ (t : ResId). t.0) m.1 in absurd (omega (arith, n))
-            | inr m ↦ let n : 1 ≡ 2 = ap (λ (t : ResId). t.0) m.1 in absurd (omega (arith, n))
-          ]
-        ]
-    at (suc (suc zero)) s e l = subst (λ (t : ResId). ((rank_in (0 ∷ 1 ∷ 2 ∷ []) t ≡ 0) × ((r : ResId) → IsPair chain r t → ⊥))
-        ⊎ IsOneMore (IsPair chain) (rank_in (0 ∷ 1 ∷ 2 ∷ [])) t) (ap resource (sym e)) (inr (record {
-          below = b;
-          related = found chain b c refl;
-          is = refl;
-          greatest = greatest;
-        }))
-      where
-        greatest : (r : ResId) → IsPair chain r c → rank_in (0 ∷ 1 ∷ 2 ∷ []) r ≤ 1
-        greatest r h = elim (chain-cases r c h) [
-          | inl k ↦ let n : 2 ≡ 1 = ap (λ (t : ResId). t.0) k.1 in absurd (omega (arith, n))
-          | inr k ↦ elim k [
-            | inl m ↦ let n : rank_in (0 ∷ 1 ∷ 2 ∷ []) r ≡ 0 = ap (rank_in (0 ∷ 1 ∷ 2 ∷ [])) m.0 in omega arith
-            | inr m ↦ let n : rank_in (0 ∷ 1 ∷ 2 ∷ []) r ≡ 1 = ap (rank_in (0 ∷ 1 ∷ 2 ∷ [])) m.0 in omega arith
-          ]
-        ]
+    at : (n : ℕ) (s : ResId) → s.0 ≡ n → s.0 < 3 → Ranked s
+    at zero s e l = subst Ranked (ap resource (sym e))
+        (inl (refl, λ r h. let less : rank_in levels r < 0 = levels-rise r a h in omega (arith, less)))
+    at (suc zero) s e l = subst Ranked (ap resource (sym e)) (inr (levels-follow a b (found chain a b refl) refl))
+    at (suc (suc zero)) s e l = subst Ranked (ap resource (sym e)) (inr (levels-follow b c (found chain b c refl) refl))
     at (suc (suc (suc n))) s e l = absurd (omega (arith, e, l))
 
 pub ranks_begin_at_the_top : RanksBeginAtTheTop

@@ -27,3 +27,4 @@ pub mod UnitExists
 pub mod StateExists
 pub mod TurnsDecided
 pub mod WrittenLines
+pub mod Started

@@ -49,27 +49,6 @@ fn put_event<'p>(
     Ok(made)
 }
 
-/// Appends those events, each with the configuration after it. An `Err` says that memory ran out.
-fn put_events<'p>(
-    text: &mut Vec<u8>,
-    p: &'p Program,
-    source: Source<'_>,
-    c: &mut Config<'p>,
-    events: &[Scheduled],
-) -> Result<(), AllocError>
-    requires reached { IsReached (program_of p.now) (config_of c.old) }
-    requires wide { IsWide (program_of p.now) c.old }
-    ensures reached { IsReached (program_of p.now) (config_of c.new) }
-    ensures wide { IsWide (program_of p.now) c.new }
-{
-    for scheduled in events {
-        if !put_event(text, p, source, c, &scheduled.event)? {
-            break;
-        }
-    }
-    Ok(())
-}
-
 /// Appends how many events follow, where some do, and the configuration after them. An `Err` says that
 /// memory ran out.
 fn put_rest<'p>(
@@ -111,7 +90,11 @@ pub fn put_tour(
     let events = schedule.as_slice();
     let made = events.get(..tour.count).unwrap_or(events);
     let (told, rest) = made.split_at(made.len().min(EVENTS_TOLD));
-    put_events(text, p, source, &mut c, told)?;
+    for scheduled in told {
+        if !put_event(text, p, source, &mut c, &scheduled.event)? {
+            break;
+        }
+    }
     put_rest(text, p, &mut c, rest)?;
     put_sight(text, p, source, &c, tour.sight)
 }

@@ -2,37 +2,17 @@
 
 ghost use Rattle.std.specs.Prelude.{◌≡◌};
 ghost use Rattle.std.specs.Result.{result_err};
-ghost use Rattle.sf_core.specs.Program.Heads.{call_occurrences};
 ghost use Rattle.sf_core.specs.Program.View.{call_of};
-ghost use Rattle.sf_vars.specs.Checked.Search.{HasSets, also_free, free_in_both, may_change, shared_among, shared_at, shares, shares_in_fork, uses};
+ghost use Rattle.sf_vars.specs.Checked.Search.{HasSets, also_free, free_in_both, may_change, shared_among, shared_at, shares, uses};
 
 use crate::at_calls::is_free;
 use sf_base::{Place, ProcId, Var};
 use sf_calls::{Breach, Calls, in_references, in_values};
 use sf_core::{Call, Occurrence};
 
-/// Looks for a variable that one of the calls may change and the other uses: first those that occur
-/// in the calls, then the others.
-pub fn shares_in_fork(
-    calls: &Calls,
-    left: &Call,
-    right: &Call,
-    left_words: &[Occurrence],
-    right_words: &[Occurrence],
-) -> Result<(), Breach>
-    requires left { HasSets calls.now left.now.callee }
-    requires right { HasSets calls.now right.now.callee }
-    requires left_words { left_words.now ≡ call_occurrences (call_of left.now) }
-    requires right_words { right_words.now ≡ call_occurrences (call_of right.now) }
-    ensures { result_err result ≡ shares_in_fork calls.now (call_of left.now) (call_of right.now) }
-{
-    shared_among(calls, left, right, left_words)?;
-    shared_among(calls, left, right, right_words)?;
-    free_in_both(calls, left, right)
-}
-
-/// Looks at the variables that occur there.
-fn shared_among(
+/// Looks for a variable, among those that occur there, that one of the calls may change and the
+/// other uses.
+pub fn shared_among(
     calls: &Calls,
     left: &Call,
     right: &Call,
@@ -50,7 +30,7 @@ fn shared_among(
 }
 
 /// Looks for a variable that is free in both.
-fn free_in_both(calls: &Calls, left: &Call, right: &Call) -> Result<(), Breach>
+pub fn free_in_both(calls: &Calls, left: &Call, right: &Call) -> Result<(), Breach>
     requires left { HasSets calls.now left.now.callee }
     requires right { HasSets calls.now right.now.callee }
     ensures { result_err result ≡ free_in_both calls.now (call_of left.now) (call_of right.now) }

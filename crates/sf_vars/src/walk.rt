@@ -9,21 +9,19 @@ ghost use Rattle.sf_vars.specs.Checked.Search.{BlockFits, CommandFits, HasSets, 
 
 use crate::at_calls::{passes_free, reenters_by_call, repeats, unheld_in_call};
 use crate::held::Held;
-use crate::parallel::shares_in_fork;
+use crate::parallel::{free_in_both, shared_among};
 use crate::unheld::unheld;
 use sf_base::ProcId;
 use sf_calls::{Breach, Calls};
 use sf_core::{Call, Command, Occurrence, Proc, add_call_occurrences, add_head_occurrences};
 use std::alloc::{AllocError, Global};
 
+/// The first breach, if there is one. An `Err` means that memory ran out.
+type Search = Result<Option<Breach>, AllocError>;
+
 /// The first breach in the procedure of that number, which holds its own resources throughout. An
 /// `Err` means that memory ran out.
-pub fn in_procedure(
-    alloc: Global,
-    calls: &Calls,
-    f: ProcId,
-    procedure: &Proc,
-) -> Result<Option<Breach>, AllocError>
+pub fn in_procedure(alloc: Global, calls: &Calls, f: ProcId, procedure: &Proc) -> Search
     requires there { f.0 < length calls.now.holds }
     requires held { All (λ r. r.0 < RESOURCES) (holds_of calls.now f) }
     requires fits { BlockFits calls.now (block_of procedure.now.body.items) }
@@ -35,12 +33,7 @@ pub fn in_procedure(
 
 /// The first breach in commands.
 #[cycle(commands)]
-fn in_block(
-    alloc: Global,
-    calls: &Calls,
-    held: &Held,
-    body: &[Command],
-) -> Result<Option<Breach>, AllocError>
+fn in_block(alloc: Global, calls: &Calls, held: &Held, body: &[Command]) -> Search
     requires { BlockFits calls.now (block_of body.now) }
     ensures { IfOk result (λ found. found ≡ in_block calls.now held.now (block_of body.now)) }
 {
@@ -55,12 +48,7 @@ fn in_block(
 
 /// The first breach in a command, or in those inside it.
 #[cycle(commands)]
-fn in_command(
-    alloc: Global,
-    calls: &Calls,
-    held: &Held,
-    c: &Command,
-) -> Result<Option<Breach>, AllocError>
+fn in_command(alloc: Global, calls: &Calls, held: &Held, c: &Command) -> Search
     requires { CommandFits calls.now (command_of c.now) }
     ensures { IfOk result (λ found. found ≡ in_command calls.now held.now (command_of c.now)) }
 {
@@ -73,12 +61,7 @@ fn in_command(
 
 /// The first breach in the commands inside a command.
 #[cycle(commands)]
-fn in_inner(
-    alloc: Global,
-    calls: &Calls,
-    held: &Held,
-    c: &Command,
-) -> Result<Option<Breach>, AllocError>
+fn in_inner(alloc: Global, calls: &Calls, held: &Held, c: &Command) -> Search
     requires { CommandFits calls.now (command_of c.now) }
     ensures { IfOk result (λ found. found ≡ in_inner calls.now held.now (command_of c.now)) }
 {
@@ -97,12 +80,7 @@ fn in_inner(
 }
 
 /// The first breach in a command itself.
-fn in_head(
-    alloc: Global,
-    calls: &Calls,
-    held: &Held,
-    c: &Command,
-) -> Result<Option<Breach>, AllocError>
+fn in_head(alloc: Global, calls: &Calls, held: &Held, c: &Command) -> Search
     requires { CommandFits calls.now (command_of c.now) }
     ensures { IfOk result (λ found. found ≡ in_head calls.now held.now (command_of c.now)) }
 {
@@ -125,12 +103,7 @@ fn in_head(
 }
 
 /// The first breach in a call by itself.
-fn in_single(
-    alloc: Global,
-    calls: &Calls,
-    held: &Held,
-    call: &Call,
-) -> Result<Option<Breach>, AllocError>
+fn in_single(alloc: Global, calls: &Calls, held: &Held, call: &Call) -> Search
     requires { HasSets calls.now call.now.callee }
     ensures { IfOk result (λ found.
         found ≡ in_calls calls.now held.now (call_of call.now ∷ []) []) }
@@ -154,13 +127,7 @@ fn single(calls: &Calls, held: &Held, call: &Call, words: &[Occurrence]) -> Resu
 }
 
 /// The first breach in two parallel calls.
-fn in_fork(
-    alloc: Global,
-    calls: &Calls,
-    held: &Held,
-    left: &Call,
-    right: &Call,
-) -> Result<Option<Breach>, AllocError>
+fn in_fork(alloc: Global, calls: &Calls, held: &Held, left: &Call, right: &Call) -> Search
     requires left { HasSets calls.now left.now.callee }
     requires right { HasSets calls.now right.now.callee }
     ensures { IfOk result (λ found.
@@ -174,7 +141,8 @@ fn in_fork(
     Ok(two(calls, held, left, right, &left_words, &right_words).err())
 }
 
-/// Looks at two parallel calls.
+/// Looks at two parallel calls. What they share comes last: first the variables that occur in the
+/// calls, then the others.
 fn two(
     calls: &Calls,
     held: &Held,
@@ -199,6 +167,7 @@ fn two(
     repeats(&right.references)?;
     passes_free(calls, left)?;
     passes_free(calls, right)?;
-    shares_in_fork(calls, left, right, left_words, right_words)?;
-    Ok(())
+    shared_among(calls, left, right, left_words)?;
+    shared_among(calls, left, right, right_words)?;
+    free_in_both(calls, left, right)
 }

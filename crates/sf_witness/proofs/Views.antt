@@ -22,6 +22,7 @@ use Rattle.sf_core.specs.Program.View.{conjunct_of, conjunct_step, level_step}
 use Rattle.sf_sym.specs.declared.term.Term.{Term}
 use Rattle.sf_sym.specs.Holds.{IsBound, term_value}
 use Rattle.sf_witness.specs.Checked.Meeting.{HasCellAs}
+use Rattle.sf_witness.specs.Checked.Shapes.{HasPart}
 use Rattle.sf_witness.specs.Checked.Wishes.{HasDoubleOf, HasSegmentWith, HasTreeWith, IsTrueWith}
 use Rattle.sf_witness.specs.Located.{located, value_at}
 use Rattle.sf_witness.specs.Wanted.{IsIn, IsSatisfied, plain}
@@ -65,11 +66,12 @@ module _ (heap : Heap) (bindings : List (Option Term)) (p : Place) where
     ),
   )
 
-  -- a segment and a tree of the part that is one
-  pub segment-in : (next : FieldId) (x y : Operand Term)
-      → HasSegmentWith bindings next x y heap
-      ↔ IsSatisfied heap (record { bindings = bindings; conjunct = segment p next x y })
-  segment-in next x y = (
+  -- a conjunct of the part that satisfies it
+  part-in : (c : Conjunct Term)
+      → ((some : ℕ → Value) × IsBound located bindings some
+      × HasPart (λ part. SatOne c (term_value located) some part) heap)
+      ↔ IsSatisfied heap (record { bindings = bindings; conjunct = c })
+  part-in c = (
     λ w. record {
       some = w.0;
       bound = w.1;
@@ -80,6 +82,12 @@ module _ (heap : Heap) (bindings : List (Option Term)) (p : Place) where
     },
     λ i. (i.some, i.bound, record { part = i.part; rest = i.rest; splits = i.splits; is = i.sat }),
   )
+
+  -- a segment and a tree of the part that is one
+  pub segment-in : (next : FieldId) (x y : Operand Term)
+      → HasSegmentWith bindings next x y heap
+      ↔ IsSatisfied heap (record { bindings = bindings; conjunct = segment p next x y })
+  segment-in next x y = part-in (segment p next x y)
 
   -- a doubly linked segment of the part that is one between the operands' terms
   double-terms : (next back : FieldId) (x b l y : Operand Term) (d : Term × Term × Term × Term) (some : ℕ → Value)
@@ -126,17 +134,7 @@ module _ (heap : Heap) (bindings : List (Option Term)) (p : Place) where
   pub tree-in : (l r : FieldId) (x : Operand Term)
       → HasTreeWith bindings l r x heap
       ↔ IsSatisfied heap (record { bindings = bindings; conjunct = tree p l r x })
-  tree-in l r x = (
-    λ w. record {
-      some = w.0;
-      bound = w.1;
-      part = w.2.part;
-      rest = w.2.rest;
-      splits = w.2.splits;
-      sat = w.2.is;
-    },
-    λ i. (i.some, i.bound, record { part = i.part; rest = i.rest; splits = i.splits; is = i.sat }),
-  )
+  tree-in l r x = part-in (tree p l r x)
 
 -- one thing after the other
 pub through : (b : Bool) (P Q : Type 0) → (IsTrue b ↔ P) → (P ↔ Q) → IsTrue b ↔ Q

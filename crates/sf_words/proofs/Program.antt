@@ -129,63 +129,58 @@ module _ (name : Text) (options : List Text) (apart : is_among options operands_
 
 -- ---- the commands
 
+-- what the words after a command's name are found to be, where that name is met
+module _ (name : Text) (options : List Text) (apart : is_among options operands_id ≡ false) (make : Given → Option Order) (words : List Text)
+    (found : (g : Given) (rows : List Row) → Fits options g rows → order_found name rows ≡ make g)
+    (turn : turn_fault top names start name ≡ []) (to : walked [] names start name ≡ stopped_at name [])
+    (enters : faults_at [] (stopped_at name words) ≡ or_else (level_fault (level name options) [] nothing_held words false []) [])
+    (met_at : entered program (Some (name, words)) ≡ Some (name, rows_after (rules options) [] words))
+    (orders : order_of_command name words ≡ option_and_then make (given options None words)) (plain : bytes_eq name dashes ≡ false) (t : Tidy (name ∷ words)) where
+  named-agrees : Agrees (name ∷ words)
+  named-agrees = command-agrees name options apart make words found
+      (entered-fault name name words turn to ∙ enters ∙ or_else-nil (level_fault (level name options) [] nothing_held words false []))
+      (entered-met name name words turn to ∙ met_at) orders t.full (tidy-rest name words plain t)
+
+-- the order of a command with steps and waits, by what stands under its names in the rows
+run-fits : (of : List Text → Option ℕ → Option ℕ → Option Order) (g : Given) (rows : List Row) → Fits run_options g rows
+    → of (values_at operands_id rows) (steps_of (values_at (codes "steps") rows)) (waits_of (values_at (codes "waits") rows))
+    ≡ of g.operands (steps_of (values_of (codes "steps") g.settings)) (waits_of (values_of (codes "waits") g.settings))
+run-fits of g rows fits =
+    ap₂ (λ (x y : List Text). of x (steps_of y) (waits_of (values_at (codes "waits") rows))) fits.0 (fits.1 (codes "steps") refl)
+    ∙ ap (λ (x : List Text). of g.operands (steps_of (values_of (codes "steps") g.settings)) (waits_of x)) (fits.1 (codes "waits") refl)
+
 verify-agrees : (words : List Text) → Tidy (codes "verify" ∷ words) → Agrees (codes "verify" ∷ words)
 unfolding walked defaults_fault
-verify-agrees words t = command-agrees (codes "verify") verify_options refl verify_given words
-    (λ g rows fits. ap₂ (λ (x y : List Text). verify_of x (workers_of y)) fits.0 (fits.1 (codes "workers") refl))
-    (entered-fault (codes "verify") (codes "verify") words refl refl ∙ or_else-nil (level_fault (level (codes "verify") verify_options) [] nothing_held words false []))
-    (entered-met (codes "verify") (codes "verify") words refl refl) refl t.full (tidy-rest (codes "verify") words refl t)
+verify-agrees words = named-agrees (codes "verify") verify_options refl verify_given words
+    (λ g rows fits. ap₂ (λ (x y : List Text). verify_of x (workers_of y)) fits.0 (fits.1 (codes "workers") refl)) refl refl refl refl refl refl
 
 recheck-agrees : (words : List Text) → Tidy (codes "recheck" ∷ words) → Agrees (codes "recheck" ∷ words)
 unfolding walked defaults_fault
-recheck-agrees words t = command-agrees (codes "recheck") no_options refl recheck_given words
-    (λ g rows fits. ap recheck_of fits.0)
-    (entered-fault (codes "recheck") (codes "recheck") words refl refl ∙ or_else-nil (level_fault (level (codes "recheck") no_options) [] nothing_held words false []))
-    (entered-met (codes "recheck") (codes "recheck") words refl refl) refl t.full (tidy-rest (codes "recheck") words refl t)
+recheck-agrees words = named-agrees (codes "recheck") no_options refl recheck_given words (λ g rows fits. ap recheck_of fits.0) refl refl refl refl refl refl
 
 run-agrees : (words : List Text) → Tidy (codes "run" ∷ words) → Agrees (codes "run" ∷ words)
 unfolding walked defaults_fault
-run-agrees words t = command-agrees (codes "run") run_options refl run_given words
-    (λ g rows fits. ap₂ (λ (x y : List Text). run_of x (steps_of y) (waits_of (values_at (codes "waits") rows))) fits.0 (fits.1 (codes "steps") refl)
-    ∙ ap (λ (x : List Text). run_of g.operands (steps_of (values_of (codes "steps") g.settings)) (waits_of x)) (fits.1 (codes "waits") refl))
-    (entered-fault (codes "run") (codes "run") words refl refl ∙ or_else-nil (level_fault (level (codes "run") run_options) [] nothing_held words false []))
-    (entered-met (codes "run") (codes "run") words refl refl) refl t.full (tidy-rest (codes "run") words refl t)
+run-agrees words = named-agrees (codes "run") run_options refl run_given words (run-fits run_of) refl refl refl refl refl refl
 
 demo-agrees : (words : List Text) → Tidy (codes "demo" ∷ words) → Agrees (codes "demo" ∷ words)
 unfolding walked defaults_fault
-demo-agrees words t = command-agrees (codes "demo") no_options refl demo_given words
-    (λ g rows fits. ap demo_of fits.0)
-    (entered-fault (codes "demo") (codes "demo") words refl refl ∙ or_else-nil (level_fault (level (codes "demo") no_options) [] nothing_held words false []))
-    (entered-met (codes "demo") (codes "demo") words refl refl) refl t.full (tidy-rest (codes "demo") words refl t)
+demo-agrees words = named-agrees (codes "demo") no_options refl demo_given words (λ g rows fits. ap demo_of fits.0) refl refl refl refl refl refl
 
 order-agrees : (words : List Text) → Tidy (codes "order" ∷ words) → Agrees (codes "order" ∷ words)
 unfolding walked defaults_fault
-order-agrees words t = command-agrees (codes "order") no_options refl ranking_given words
-    (λ g rows fits. ap ranking_of fits.0)
-    (entered-fault (codes "order") (codes "order") words refl refl ∙ or_else-nil (level_fault (level (codes "order") no_options) [] nothing_held words false []))
-    (entered-met (codes "order") (codes "order") words refl refl) refl t.full (tidy-rest (codes "order") words refl t)
+order-agrees words = named-agrees (codes "order") no_options refl ranking_given words (λ g rows fits. ap ranking_of fits.0) refl refl refl refl refl refl
 
 replay-agrees : (words : List Text) → Tidy (codes "replay" ∷ words) → Agrees (codes "replay" ∷ words)
 unfolding walked defaults_fault
-replay-agrees words t = command-agrees (codes "replay") no_options refl replay_given words
-    (λ g rows fits. ap replay_of fits.0)
-    (entered-fault (codes "replay") (codes "replay") words refl refl ∙ or_else-nil (level_fault (level (codes "replay") no_options) [] nothing_held words false []))
-    (entered-met (codes "replay") (codes "replay") words refl refl) refl t.full (tidy-rest (codes "replay") words refl t)
+replay-agrees words = named-agrees (codes "replay") no_options refl replay_given words (λ g rows fits. ap replay_of fits.0) refl refl refl refl refl refl
 
 witness-agrees : (words : List Text) → Tidy (codes "witness" ∷ words) → Agrees (codes "witness" ∷ words)
 unfolding walked defaults_fault
-witness-agrees words t = command-agrees (codes "witness") no_options refl witness_given words
-    (λ g rows fits. ap witness_of fits.0)
-    (entered-fault (codes "witness") (codes "witness") words refl refl ∙ or_else-nil (level_fault (level (codes "witness") no_options) [] nothing_held words false []))
-    (entered-met (codes "witness") (codes "witness") words refl refl) refl t.full (tidy-rest (codes "witness") words refl t)
+witness-agrees words = named-agrees (codes "witness") no_options refl witness_given words (λ g rows fits. ap witness_of fits.0) refl refl refl refl refl refl
 
 journal-agrees : (words : List Text) → Tidy (codes "journal" ∷ words) → Agrees (codes "journal" ∷ words)
 unfolding walked defaults_fault
-journal-agrees words t = command-agrees (codes "journal") run_options refl journal_given words
-    (λ g rows fits. ap₂ (λ (x y : List Text). journal_of x (steps_of y) (waits_of (values_at (codes "waits") rows))) fits.0 (fits.1 (codes "steps") refl)
-    ∙ ap (λ (x : List Text). journal_of g.operands (steps_of (values_of (codes "steps") g.settings)) (waits_of x)) (fits.1 (codes "waits") refl))
-    (entered-fault (codes "journal") (codes "journal") words refl refl ∙ or_else-nil (level_fault (level (codes "journal") run_options) [] nothing_held words false []))
-    (entered-met (codes "journal") (codes "journal") words refl refl) refl t.full (tidy-rest (codes "journal") words refl t)
+journal-agrees words = named-agrees (codes "journal") run_options refl journal_given words (run-fits journal_of) refl refl refl refl refl refl
 
 -- ---- another word
 

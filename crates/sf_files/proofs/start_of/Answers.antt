@@ -2,7 +2,7 @@ use Rattle.std.proofs.Common.{◌<◌, length, arith}
 use Rattle.std.proofs.lemmas.List.{length-map}
 use Rattle.sf_core.specs.Program.ProgramView.{program_of}
 use Rattle.sf_core.specs.Program.View.{procedure_of}
-use Rattle.sf_files.proofs.Started.{text-starts}
+use Rattle.sf_state.proofs.Started.{text-starts}
 use Rattle.sf_files.proofs.start_of.Goals as goal
 
 pub returns-in-Ok-read-clause-starts : goal.returns-in-Ok-read-clause-starts

@@ -1,14 +1,13 @@
-use Rattle.std.proofs.Common.{◌≡◌, ◌<◌, ◌≤◌, ◌+◌, true, get_or, length, take, ap, sym, inl, inr, arith}
+use Rattle.std.proofs.Common.{◌≡◌, ◌<◌, ◌≤◌, ◌+◌, true, get_or, length, ap, inl, inr, arith}
 use Rattle.std.proofs.lemmas.Bool.Decides.{leb_tells}
-use Rattle.std.proofs.lemmas.List.{take_all, take_more}
+use Rattle.std.proofs.lemmas.List.{take_all}
 use Rattle.sf_order.specs.Rank.{rank_in}
 use Rattle.sf_order.specs.Checked.Ways.{IsNear}
-use Rattle.sf_order.proofs.Found.{all-push, nothing}
+use Rattle.sf_order.proofs.Found.{all-next, nothing}
 use Rattle.sf_order.proofs.steps.longer.Goals as goal
 
 pub loop-x-preserved : goal.loop-x-preserved
 loop-x-preserved c =
-    let same = sym c.as_slice-x-items.ensures in
     let e = get_or c.as_slice-x-items.result.now c.loop-x.x-index nothing in
     let near : IsNear c.args.steps.now e =
     elim (leb_tells (rank_in c.args.steps.now e.0) (rank_in c.args.steps.now e.1 + 1)) [
@@ -20,9 +19,8 @@ loop-x-preserved c =
           let no = c.if-is_longer.false in
           absurd (cc)
     ] in
-    rw (same, take_more c.as_slice-x-items.result.now c.loop-x.x-index nothing c.loop-x-test.true)
-    (all-push (IsNear c.args.steps.now) (take c.loop-x.x-index c.as_slice-x-items.result.now) e
-    (rw same at c.loop-x.invariant) near)
+    all-next (IsNear c.args.steps.now) c.args.pairs.now c.as_slice-x-items.result.now c.loop-x.x-index
+    c.as_slice-x-items.ensures c.loop-x-test.true c.loop-x.invariant near
 
 pub returns : goal.returns
 returns c =
