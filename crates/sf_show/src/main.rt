@@ -37,7 +37,6 @@ mod tracing;
 
 use crate::top::{OUT_OF_MEMORY, show};
 use sf_io::{FileShelf, StdSink};
-use std::alloc::{AllocError, Global};
 use std::process::ExitCode;
 use std::{env, io};
 
@@ -50,15 +49,6 @@ fn given_words(rt: &HostRuntime) -> io::Result<Vec<String>> {
     Ok(words)
 }
 
-/// The words as texts that others own.
-fn borrowed<'a>(alloc: Global, words: &'a [String]) -> Result<Vec<&'a str>, AllocError> {
-    let mut texts = Vec::with_capacity(alloc, words.len())?;
-    for word in words {
-        texts.push(word.as_str())?;
-    }
-    Ok(texts)
-}
-
 fn main(rt: HostRuntime) -> ExitCode {
     let alloc = rt.alloc();
     let words = match given_words(&rt) {
@@ -67,10 +57,7 @@ fn main(rt: HostRuntime) -> ExitCode {
         // Words that aren't text are no command, as no words at all are.
         Err(_) => Vec::new(alloc),
     };
-    let Ok(texts) = borrowed(alloc, words.as_slice()) else {
-        return ExitCode::from(OUT_OF_MEMORY);
-    };
     let mut shelf = FileShelf::new(&rt, alloc);
     let mut sink = StdSink::new(&rt);
-    ExitCode::from(show(alloc, texts.as_slice(), &mut shelf, &mut sink))
+    ExitCode::from(show(alloc, words.as_slice(), &mut shelf, &mut sink))
 }

@@ -8,7 +8,7 @@ use crate::order::RunWords;
 use crate::reading::{Refusal, admit};
 use crate::reply::{Said, Unsaid, fetch_up_to};
 use crate::scening::{mark_of_refusal, proof_track, run_along};
-use crate::starting::{say_no_start, start_of};
+use crate::starting::{Asked, Entered, enter, say_no_start};
 use crate::tracing::{Given, say_no_schedule, schedule_of};
 use sf_base::ProcId;
 use sf_base::limits::FILE_BYTES;
@@ -145,19 +145,14 @@ fn add_run(
 }
 
 /// The page of a program with a run of it from a start. An `Err` says that memory ran out.
-fn say_start_page(
-    alloc: Global,
-    source: Source<'_>,
-    arranged: &Arranged,
-    f: ProcId,
-    start: &Start,
-    words: RunWords<'_>,
-    files: &Files,
-) -> Result<Said, AllocError>
-    requires { StartsWith (program_of arranged.now.program) f start.now.fresh start.now.vars
-        start.now.heap start.now.parts.items }
+fn say_start_page(alloc: Global, asked: Asked<'_>, entered: &Entered) -> Result<Said, AllocError>
+    requires { StartsWith (program_of asked.arranged.now.program) entered.now.f
+        entered.now.start.fresh entered.now.start.vars entered.now.start.heap
+        entered.now.start.parts.items }
 {
-    let given = schedule_of(alloc, &arranged.program, f, start, words, files)?;
+    let (source, arranged) = (asked.source, asked.arranged);
+    let (f, start) = (entered.f, &entered.start);
+    let given = schedule_of(alloc, &arranged.program, f, start, asked.words, asked.files)?;
     let (mut page, status) = proofs_page(alloc, source, arranged)?;
     match add_run(alloc, source, arranged, f, start, &given, &mut page)? {
         Some(said) => Ok(said),
@@ -166,25 +161,10 @@ fn say_start_page(
 }
 
 /// The page of a program with a run of it. An `Err` says that memory ran out.
-fn say_run_page(
-    alloc: Global,
-    source: Source<'_>,
-    arranged: &Arranged,
-    words: RunWords<'_>,
-    files: &Files,
-) -> Result<Said, AllocError> {
-    let state = files.state.as_slice();
-    match start_of(alloc, arranged, words.entry, state) {
-        Ok(entered) => say_start_page(
-            alloc,
-            source,
-            arranged,
-            entered.f,
-            &entered.start,
-            words,
-            files,
-        ),
-        Err(fault) => say_no_start(alloc, arranged, source, words, state, &fault),
+fn say_run_page(alloc: Global, asked: Asked<'_>) -> Result<Said, AllocError> {
+    match enter(alloc, asked) {
+        Ok(entered) => say_start_page(alloc, asked, &entered),
+        Err(fault) => say_no_start(alloc, asked, &fault),
     }
 }
 
@@ -214,7 +194,7 @@ fn page_files(
     files: &Files,
 ) -> Result<Said, AllocError> {
     match admit(alloc, source.bytes) {
-        Ok(arranged) => say_run_page(alloc, source, &arranged, words, files),
+        Ok(arranged) => say_run_page(alloc, Asked::new(source, &arranged, words, files)),
         Err(refusal) => say_refused_page(alloc, source, &refusal),
     }
 }

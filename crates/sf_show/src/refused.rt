@@ -92,57 +92,45 @@ fn of_tokens<'a>(fault: &ParseFault) -> Option<Refused<'a>> {
 
 /// What is told of wrong names.
 fn of_names(fault: &NameFault) -> Option<Refused<'_>> {
-    match fault {
+    let (kind, place, name, slip) = match fault {
         NameFault::UnknownName(place, name) => {
             let slip = slip_of_name(name.as_bytes()).unwrap_or(Slip::Undeclared);
-            Some(Refused::named("20 UnknownName", *place, name, slip))
+            ("20 UnknownName", place, name, slip)
         }
-        NameFault::Twice(place, name) => {
-            Some(Refused::named("21 Twice", *place, name, Slip::DeclaredTwice))
-        }
-        NameFault::Arity(place, name) => {
-            Some(Refused::named("22 Arity", *place, name, Slip::ReferencesThenValues))
-        }
-        NameFault::OwnedTwice(place, name) => {
-            Some(Refused::named("23 OwnedTwice", *place, name, Slip::OneOwner))
-        }
+        NameFault::Twice(place, name) => ("21 Twice", place, name, Slip::DeclaredTwice),
+        NameFault::Arity(place, name) => ("22 Arity", place, name, Slip::ReferencesThenValues),
+        NameFault::OwnedTwice(place, name) => ("23 OwnedTwice", place, name, Slip::OneOwner),
         NameFault::ForeignVariable(place, name) => {
-            Some(Refused::named("24 ForeignVariable", *place, name, Slip::OwnVariables))
+            ("24 ForeignVariable", place, name, Slip::OwnVariables)
         }
         NameFault::MissingField(place, name) => {
-            Some(Refused::named("25 MissingField", *place, name, Slip::DeclareFields))
+            ("25 MissingField", place, name, Slip::DeclareFields)
         }
-        NameFault::TooMany(place) => Some(Refused::at("26 TooMany", *place, Some(Slip::TooMany))),
-        NameFault::InitShape(place, name) => {
-            Some(Refused::named("28 InitShape", *place, name, Slip::InitShape))
+        NameFault::TooMany(place) => {
+            return Some(Refused::at("26 TooMany", *place, Some(Slip::TooMany)));
         }
-        NameFault::InitCalled(place, name) => {
-            Some(Refused::named("29 InitCalled", *place, name, Slip::InitCalled))
-        }
-        NameFault::OutOfMemory => None,
-    }
+        NameFault::InitShape(place, name) => ("28 InitShape", place, name, Slip::InitShape),
+        NameFault::InitCalled(place, name) => ("29 InitCalled", place, name, Slip::InitCalled),
+        NameFault::OutOfMemory => return None,
+    };
+    Some(Refused::named(kind, *place, name, slip))
 }
 
 /// What is told of a condition on variables that is broken.
 fn of_variables(fault: &VarFault) -> Option<Refused<'_>> {
-    match fault {
-        VarFault::NotHeld(place, name) => {
-            Some(Refused::named("30 NotHeld", *place, name, Slip::EnterFirst))
-        }
-        VarFault::Reentered(place, name) => {
-            Some(Refused::named("31 Reentered", *place, name, Slip::EnteredAgain))
-        }
+    let (kind, place, name, slip) = match fault {
+        VarFault::NotHeld(place, name) => ("30 NotHeld", place, name, Slip::EnterFirst),
+        VarFault::Reentered(place, name) => ("31 Reentered", place, name, Slip::EnteredAgain),
         VarFault::SameReference(place, name) => {
-            Some(Refused::named("32 SameReference", *place, name, Slip::TwoVariables))
+            ("32 SameReference", place, name, Slip::TwoVariables)
         }
         VarFault::ReferenceIsFree(place, name) => {
-            Some(Refused::named("33 ReferenceIsFree", *place, name, Slip::UsedByCallee))
+            ("33 ReferenceIsFree", place, name, Slip::UsedByCallee)
         }
-        VarFault::ParallelShares(place, name) => {
-            Some(Refused::named("34 ParallelShares", *place, name, Slip::TwoTasks))
-        }
-        VarFault::OutOfMemory => None,
-    }
+        VarFault::ParallelShares(place, name) => ("34 ParallelShares", place, name, Slip::TwoTasks),
+        VarFault::OutOfMemory => return None,
+    };
+    Some(Refused::named(kind, *place, name, slip))
 }
 
 /// What is told of an annotation that isn't determined.

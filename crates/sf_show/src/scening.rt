@@ -273,39 +273,6 @@ fn verdict_of(sight: Sight) -> Verdict {
     }
 }
 
-/// The events of a schedule step by step, of which so many are kept, and the scene at their end. An
-/// `Err` says that memory ran out.
-fn schedule_track(
-    alloc: Global,
-    arranged: &Arranged,
-    bytes: &[u8],
-    f: ProcId,
-    start: &Start,
-    schedule: &Schedule,
-    room: usize,
-) -> Result<(Track, Scene), AllocError>
-    requires starts { StartsWith (program_of arranged.now.program) f start.now.fresh start.now.vars
-        start.now.heap start.now.parts.items }
-    requires fields { All (IsWide (length arranged.now.program.fields.items)) schedule.now }
-{
-    let tour = tour_of(alloc, arranged, f, start, schedule)?;
-    let p = &arranged.program;
-    let events = schedule.as_slice();
-    let made = events.get(..tour.count).unwrap_or(events);
-    let found = event_steps(alloc, arranged, bytes, f, start, made, room)?;
-    let track = Track {
-        kind: TrackKind::Schedule,
-        name: Vec::from_slice(alloc, p.name_of(f))?,
-        span: spot(place_of(p, f)),
-        verdict: verdict_of(tour.sight),
-        said: sight_text(alloc, tour.sight)?,
-        left_out: made.len().saturating_sub(found.steps.len()) as u64,
-        steps: found.steps,
-        failure: None,
-    };
-    Ok((track, found.end))
-}
-
 /// Who owns cells at a start and at an end: the contract of procedure `f`, and each resource. An `Err` says
 /// that memory ran out.
 fn owners_of(alloc: Global, p: &Program, f: ProcId) -> Result<Vec<Vec<u8>>, AllocError> {
@@ -354,7 +321,21 @@ pub fn run_along(
         start.now.heap start.now.parts.items }
     requires fields { All (IsWide (length arranged.now.program.fields.items)) schedule.now }
 {
-    let (track, end) = schedule_track(alloc, arranged, bytes, f, start, schedule, room)?;
-    let run = run_of(alloc, &arranged.program, f, start, end)?;
+    let tour = tour_of(alloc, arranged, f, start, schedule)?;
+    let p = &arranged.program;
+    let events = schedule.as_slice();
+    let made = events.get(..tour.count).unwrap_or(events);
+    let found = event_steps(alloc, arranged, bytes, f, start, made, room)?;
+    let track = Track {
+        kind: TrackKind::Schedule,
+        name: Vec::from_slice(alloc, p.name_of(f))?,
+        span: spot(place_of(p, f)),
+        verdict: verdict_of(tour.sight),
+        said: sight_text(alloc, tour.sight)?,
+        left_out: made.len().saturating_sub(found.steps.len()) as u64,
+        steps: found.steps,
+        failure: None,
+    };
+    let run = run_of(alloc, p, f, start, found.end)?;
     Ok((track, run))
 }

@@ -4,6 +4,7 @@ ghost use Rattle.std.specs.Prelude.{IfOk};
 ghost use Rattle.sf_core.specs.Program.ProgramView.{program_of};
 ghost use Rattle.sf_foot.specs.Starting.{StartsWith};
 
+use crate::files::Files;
 use crate::order::RunWords;
 use crate::reply::Said;
 use sf_base::{Name, ProcId};
@@ -13,6 +14,36 @@ use sf_precise::Arranged;
 use sf_state::{StartFault, entry, read};
 use sf_tour::{Source, put_unmet};
 use std::alloc::{AllocError, Global};
+
+/// A run that is asked for.
+#[derive(Clone, Copy)]
+pub struct Asked<'a> {
+    /// The file.
+    pub source: Source<'a>,
+    /// Its program.
+    pub arranged: &'a Arranged,
+    /// What the command's words say of the run.
+    pub words: RunWords<'a>,
+    /// What the files have that they name.
+    pub files: &'a Files,
+}
+
+impl<'a> Asked<'a> {
+    /// A run of that file's program, by those words and the files that they name.
+    pub fn new(
+        source: Source<'a>,
+        arranged: &'a Arranged,
+        words: RunWords<'a>,
+        files: &'a Files,
+    ) -> Asked<'a> {
+        Asked {
+            source,
+            arranged,
+            words,
+            files,
+        }
+    }
+}
 
 /// A procedure, and a start of it.
 #[derive(Drop)]
@@ -24,7 +55,7 @@ pub struct Entered {
 }
 
 /// The procedure of that name with the start that the text gives, or why there is none.
-pub fn start_of(
+fn start_of(
     alloc: Global,
     arranged: &Arranged,
     name: &str,
@@ -36,6 +67,15 @@ pub fn start_of(
     let f = entry(alloc, arranged, name)?;
     let start = read(alloc, arranged, f, state)?;
     Ok(Entered { f, start })
+}
+
+/// The procedure of a run that is asked for, with its start, or why there is none.
+pub fn enter(alloc: Global, asked: Asked<'_>) -> Result<Entered, StartFault>
+    ensures { IfOk result (λ e. StartsWith (program_of asked.entry.arranged.now.program) e.f
+        e.start.fresh e.start.vars e.start.heap e.start.parts.items) }
+{
+    let state = asked.files.state.as_slice();
+    start_of(alloc, asked.arranged, asked.words.entry, state)
 }
 
 /// The number, the word and the meaning of a fault.
@@ -100,12 +140,10 @@ fn put_why(
 /// reason. An `Err` says that memory ran out, which is also the answer where that was the cause.
 pub fn say_no_start(
     alloc: Global,
-    arranged: &Arranged,
-    source: Source<'_>,
-    words: RunWords<'_>,
-    state: &[u8],
+    asked: Asked<'_>,
     fault: &StartFault,
 ) -> Result<Said, AllocError> {
+    let (words, state) = (asked.words, asked.files.state.as_slice());
     if let StartFault::OutOfMemory = fault {
         return Err(AllocError);
     }
@@ -122,7 +160,14 @@ pub fn say_no_start(
         put_line(&mut text, state, *line)?;
     }
     if let StartFault::Unmet(_) = fault {
-        put_why(&mut text, alloc, arranged, source, words.entry, state)?;
+        put_why(
+            &mut text,
+            alloc,
+            asked.arranged,
+            asked.source,
+            words.entry,
+            state,
+        )?;
     }
     Ok(Said { text, status: 5 })
 }

@@ -23,9 +23,19 @@ fn follow<S: Shelf>(alloc: Global, order: Order<'_>, shelf: &mut S) -> Result<Sa
     }
 }
 
+/// The words as texts that others own.
+fn borrowed<'a>(alloc: Global, words: &'a [String]) -> Result<Vec<&'a str>, AllocError> {
+    let mut texts = Vec::with_capacity(alloc, words.len())?;
+    for word in words {
+        texts.push(word.as_str())?;
+    }
+    Ok(texts)
+}
+
 /// What is said to the words. An `Err` says that memory ran out.
-fn respond<S: Shelf>(alloc: Global, words: &[&str], shelf: &mut S) -> Result<Said, AllocError> {
-    let Some(order) = order_of(words) else {
+fn respond<S: Shelf>(alloc: Global, words: &[String], shelf: &mut S) -> Result<Said, AllocError> {
+    let texts = borrowed(alloc, words)?;
+    let Some(order) = order_of(&texts) else {
         return say(alloc, USAGE, 2);
     };
     match follow(alloc, order, shelf) {
@@ -51,7 +61,7 @@ fn tell<K: Sink>(sink: &mut K, said: &Said) -> u8 {
 /// procedure fails, 2 where the words ask for nothing, 3 where the file is refused, 4 where the proof
 /// is, 5 where a text is no start, 7 where a file can't be read, 8 where the sink fails, 9 where memory
 /// ran out, 10 where a trace comes to an absent cell or a race, and 11 where its schedule is refused.
-pub fn show<S: Shelf, K: Sink>(alloc: Global, words: &[&str], shelf: &mut S, sink: &mut K) -> u8 {
+pub fn show<S: Shelf, K: Sink>(alloc: Global, words: &[String], shelf: &mut S, sink: &mut K) -> u8 {
     match respond(alloc, words, shelf) {
         Ok(said) => tell(sink, &said),
         Err(_) => OUT_OF_MEMORY,

@@ -9,7 +9,7 @@ use crate::order::RunWords;
 use crate::reading::admit;
 use crate::refused::say_refused;
 use crate::reply::{Said, Unsaid, fetch_up_to};
-use crate::starting::{say_no_start, start_of};
+use crate::starting::{Asked, Entered, enter, say_no_start};
 use sf_base::ProcId;
 use sf_base::limits::FILE_BYTES;
 use sf_core::Program;
@@ -145,43 +145,23 @@ pub fn schedule_of<'a>(
 
 /// What is said of a run from a start of the program, with which nothing is wrong. An `Err` says that
 /// memory ran out.
-fn trace_start(
-    alloc: Global,
-    source: Source<'_>,
-    arranged: &Arranged,
-    f: ProcId,
-    start: &Start,
-    words: RunWords<'_>,
-    files: &Files,
-) -> Result<Said, AllocError>
-    requires { StartsWith (program_of arranged.now.program) f start.now.fresh start.now.vars
-        start.now.heap start.now.parts.items }
+fn trace_start(alloc: Global, asked: Asked<'_>, entered: &Entered) -> Result<Said, AllocError>
+    requires { StartsWith (program_of asked.arranged.now.program) entered.now.f
+        entered.now.start.fresh entered.now.start.vars entered.now.start.heap
+        entered.now.start.parts.items }
 {
-    let given = schedule_of(alloc, &arranged.program, f, start, words, files)?;
+    let (source, arranged) = (asked.source, asked.arranged);
+    let (f, start) = (entered.f, &entered.start);
+    let given = schedule_of(alloc, &arranged.program, f, start, asked.words, asked.files)?;
     say_tour(alloc, source, arranged, f, start, &given)
 }
 
 /// What is said of a run of the program, with which nothing is wrong. An `Err` says that memory ran
 /// out.
-fn trace_program(
-    alloc: Global,
-    source: Source<'_>,
-    arranged: &Arranged,
-    words: RunWords<'_>,
-    files: &Files,
-) -> Result<Said, AllocError> {
-    let state = files.state.as_slice();
-    match start_of(alloc, arranged, words.entry, state) {
-        Ok(entered) => trace_start(
-            alloc,
-            source,
-            arranged,
-            entered.f,
-            &entered.start,
-            words,
-            files,
-        ),
-        Err(fault) => say_no_start(alloc, arranged, source, words, state, &fault),
+fn trace_program(alloc: Global, asked: Asked<'_>) -> Result<Said, AllocError> {
+    match enter(alloc, asked) {
+        Ok(entered) => trace_start(alloc, asked, &entered),
+        Err(fault) => say_no_start(alloc, asked, &fault),
     }
 }
 
@@ -194,7 +174,7 @@ pub fn trace_files(
     files: &Files,
 ) -> Result<Said, AllocError> {
     match admit(alloc, source.bytes) {
-        Ok(arranged) => trace_program(alloc, source, &arranged, words, files),
+        Ok(arranged) => trace_program(alloc, Asked::new(source, &arranged, words, files)),
         Err(refusal) => say_refused(alloc, source.file, source.bytes, &refusal),
     }
 }

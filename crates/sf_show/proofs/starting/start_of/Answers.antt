@@ -2,7 +2,7 @@ use Rattle.std.proofs.Common.{◌<◌, length, arith}
 use Rattle.std.proofs.lemmas.List.{length-map}
 use Rattle.sf_core.specs.Program.ProgramView.{program_of}
 use Rattle.sf_core.specs.Program.View.{procedure_of}
-use Rattle.sf_show.proofs.Started.{text-starts}
+use Rattle.sf_state.proofs.Started.{text-starts}
 use Rattle.sf_show.proofs.starting.start_of.Goals as goal
 
 -- what was read for a procedure of the program is a start of it
