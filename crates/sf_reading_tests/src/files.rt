@@ -48,138 +48,106 @@ fn file(alloc: Global, bytes: &[u8]) -> Option<File> {
     }
 }
 
+/// Files that are read.
+const READ: [&[u8]; 47] = [
+    b"f() [__ == nil] { }",
+    b"f() { } /* \xc3\xa4 @ */",
+    b"f(x) { x->tl = -9223372036854775808; }",
+    b"f(x) { x->tl = 9223372036854775807; }",
+    b"f(;) { }",
+    b"f(x;) { }",
+    b"resource r () []",
+    b"f(x) { dispose x; dispose(x); }",
+    b"f(x) { nil->tl = 3; 3->hd = nil; }",
+    b"f(x) [if x == nil then emp else if (x != nil) then emp else emp * x == nil] { }",
+    b"tl, pv; f(x, l) [dll(x,nil,l,nil)] { }",
+    b"f(x) [dll(_a,_b,3,NULL) * x == _a] { }",
+    b"f() { with r when (x == nil) { } }",
+    b"q; f(x) { x->tl = 1; }",
+    b"f(x) [x|->q:1] { }",
+    b"f() { local x; } [x == nil]",
+    b"f() { } f() { }",
+    b"f(x; x) { }",
+    b"a; b; a;",
+    b"resource a (v, v) []",
+    b"f(x) [x|->tl:1,hd:2,tl:3] { }",
+    b"resource a (v) [] resource b (w, v) []",
+    b"resource a (v) [w == nil] resource b (w) []",
+    b"q, tl; f(x) [list(x) * tree(x)] { }",
+    b"q; f(x) [tree(y)] { }",
+    b"f(x) { f(y,y); }",
+    b"f(x;) { f(x); }",
+    b"f(x) [if x == nil then x == _y else x|->tl:_y] { }",
+    b"f(x) [(if x == nil then _y == nil else emp) * ls(x,_y)] { }",
+    b"f(x) [if _y == nil then emp else emp * list(x)] { }",
+    b"f(x) [ls(_a,_b) * _b|->tl:_a * x|->tl:_b] { }",
+    b"f(x) [_a == _b * _b == x] { }",
+    b"f(x) [_a|->tl:x] { }",
+    b"f(x) { } [list(_q)] resource r (v) [list(_w)]",
+    b"f(x) [if x == nil then (if x == nil then _z == x * list(_z) else _z == nil) else emp] { }",
+    b"resource r (v) [] f() { with r when (v == nil) { v = nil; } }",
+    b"resource r (v) [] f() { local v; v = nil; } [v == nil]",
+    b"h(x,y,z;) { } q(x;y) { local z; h(x,z,x;); }",
+    b"f(x;y) { } g(x;) { } p(a;) { f(a;nil) || g(a;); }",
+    b"f(y) { } p(a;) { f(a) || f(a); }",
+    b"f() [v == nil] { v = nil; g(); } g() { } h() { with r when (true) { f(); } }",
+    b"",
+    b" /* */ ",
+    b"f() { f(x, y; x, 3); }",
+    b"f() { f(; 3); }",
+    b"f() { f(x;); }",
+    b"f() { while (true) [emp] { } }",
+];
+
+/// Files that are refused, and the line and the column of the token that fits nothing.
+const REFUSED: [(&[u8], (u32, u32)); 37] = [
+    (b"f(x) { x->tl = 3/**/4; }", (1, 21)),
+    (b"f(x,) { }", (1, 5)),
+    (b"f() { f(3;); }", (1, 10)),
+    (b"f() { if (true) { } else { } else { } }", (1, 30)),
+    (b"f() { local ; }", (1, 13)),
+    (b"f() {", (1, 6)),
+    (b"f", (1, 2)),
+    (b"f() [true] { }", (1, 6)),
+    (b"f(x) [x] { }", (1, 8)),
+    (b"f(x) [x|->tl] { }", (1, 13)),
+    (b"f(x) [x|->tl:x,] { }", (1, 16)),
+    (b"f(x;) { f(x;) || x = nil; }", (1, 20)),
+    (b"f(x) { x = new; }", (1, 15)),
+    (b"f(x) { x == nil; }", (1, 10)),
+    (b"f(x) { x = x->tl->tl; }", (1, 17)),
+    (b"f(x) { if x == nil { } }", (1, 11)),
+    (b"f(x) [lseg(x)] { }", (1, 13)),
+    (b"f(list) { }", (1, 3)),
+    (b"f(dll) { }", (1, 3)),
+    (b"f(x) [dll(x,nil,x)] { }", (1, 18)),
+    (b"f(x) [dll(x,x,x,x,x)] { }", (1, 18)),
+    (b"f(x) [dll x] { }", (1, 11)),
+    (b"a b;", (1, 3)),
+    (b"f() { x = ; }", (1, 11)),
+    (b"f() { f(x, 3; x); }", (1, 13)),
+    (b"f() { f(x, ; 3); }", (1, 12)),
+    (b"f() { dispose(x; }", (1, 16)),
+    (b"f() { local x, y z; }", (1, 18)),
+    (b"f() { while (true) [emp } }", (1, 25)),
+    (b"f() { with r (true) { } }", (1, 14)),
+    (b"f() { ; }", (1, 7)),
+    (b"f() { } }", (1, 9)),
+    (b"f() { } [emp] [emp]", (1, 15)),
+    (b"f() { /* */ ", (1, 13)),
+    (b"f() {\n", (2, 1)),
+    (b"f() {\n  x = y\n}", (3, 1)),
+    (b"resource r (x) ", (1, 16)),
+];
+
 #[test]
 fn files_are_read_or_refused_at_the_first_bad_token(rt: HostRuntime) {
-    let cases: [(&[u8], Answer); 84] = [
-        (b"f() [__ == nil] { }", Answer::Read),
-        (b"f() { } /* \xc3\xa4 @ */", Answer::Read),
-        (b"f(x) { x->tl = -9223372036854775808; }", Answer::Read),
-        (b"f(x) { x->tl = 9223372036854775807; }", Answer::Read),
-        (b"f(x) { x->tl = 3/**/4; }", unexpected(21)),
-        (b"f(;) { }", Answer::Read),
-        (b"f(x;) { }", Answer::Read),
-        (b"f(x,) { }", unexpected(5)),
-        (b"f() { f(3;); }", unexpected(10)),
-        (b"f() { if (true) { } else { } else { } }", unexpected(30)),
-        (b"f() { local ; }", unexpected(13)),
-        (b"f() {", unexpected(6)),
-        (b"f", unexpected(2)),
-        (b"resource r () []", Answer::Read),
-        (b"f() [true] { }", unexpected(6)),
-        (b"f(x) [x] { }", unexpected(8)),
-        (b"f(x) [x|->tl] { }", unexpected(13)),
-        (b"f(x) [x|->tl:x,] { }", unexpected(16)),
-        (b"f(x;) { f(x;) || x = nil; }", unexpected(20)),
-        (b"f(x) { dispose x; dispose(x); }", Answer::Read),
-        (b"f(x) { x = new; }", unexpected(15)),
-        (b"f(x) { x == nil; }", unexpected(10)),
-        (b"f(x) { nil->tl = 3; 3->hd = nil; }", Answer::Read),
-        (b"f(x) { x = x->tl->tl; }", unexpected(17)),
-        (b"f(x) { if x == nil { } }", unexpected(11)),
-        (
-            b"f(x) [if x == nil then emp else if (x != nil) then emp else emp * x == nil] { }",
-            Answer::Read,
-        ),
-        (b"f(x) [lseg(x)] { }", unexpected(13)),
-        (b"f(list) { }", unexpected(3)),
-        (b"f(dll) { }", unexpected(3)),
-        (b"tl, pv; f(x, l) [dll(x,nil,l,nil)] { }", Answer::Read),
-        (b"f(x) [dll(_a,_b,3,NULL) * x == _a] { }", Answer::Read),
-        (b"f(x) [dll(x,nil,x)] { }", unexpected(18)),
-        (b"f(x) [dll(x,x,x,x,x)] { }", unexpected(18)),
-        (b"f(x) [dll x] { }", unexpected(11)),
-        (b"a b;", unexpected(3)),
-        (b"f() { with r when (x == nil) { } }", Answer::Read),
-        (b"q; f(x) { x->tl = 1; }", Answer::Read),
-        (b"f(x) [x|->q:1] { }", Answer::Read),
-        (b"f() { local x; } [x == nil]", Answer::Read),
-        (b"f() { } f() { }", Answer::Read),
-        (b"f(x; x) { }", Answer::Read),
-        (b"a; b; a;", Answer::Read),
-        (b"resource a (v, v) []", Answer::Read),
-        (b"f(x) [x|->tl:1,hd:2,tl:3] { }", Answer::Read),
-        (b"resource a (v) [] resource b (w, v) []", Answer::Read),
-        (b"resource a (v) [w == nil] resource b (w) []", Answer::Read),
-        (b"q, tl; f(x) [list(x) * tree(x)] { }", Answer::Read),
-        (b"q; f(x) [tree(y)] { }", Answer::Read),
-        (b"f(x) { f(y,y); }", Answer::Read),
-        (b"f(x;) { f(x); }", Answer::Read),
-        (
-            b"f(x) [if x == nil then x == _y else x|->tl:_y] { }",
-            Answer::Read,
-        ),
-        (
-            b"f(x) [(if x == nil then _y == nil else emp) * ls(x,_y)] { }",
-            Answer::Read,
-        ),
-        (
-            b"f(x) [if _y == nil then emp else emp * list(x)] { }",
-            Answer::Read,
-        ),
-        (
-            b"f(x) [ls(_a,_b) * _b|->tl:_a * x|->tl:_b] { }",
-            Answer::Read,
-        ),
-        (b"f(x) [_a == _b * _b == x] { }", Answer::Read),
-        (b"f(x) [_a|->tl:x] { }", Answer::Read),
-        (
-            b"f(x) { } [list(_q)] resource r (v) [list(_w)]",
-            Answer::Read,
-        ),
-        (
-            b"f(x) [if x == nil then (if x == nil then _z == x * list(_z) else _z == nil) else emp] { }",
-            Answer::Read,
-        ),
-        (
-            b"resource r (v) [] f() { with r when (v == nil) { v = nil; } }",
-            Answer::Read,
-        ),
-        (
-            b"resource r (v) [] f() { local v; v = nil; } [v == nil]",
-            Answer::Read,
-        ),
-        (
-            b"h(x,y,z;) { } q(x;y) { local z; h(x,z,x;); }",
-            Answer::Read,
-        ),
-        (
-            b"f(x;y) { } g(x;) { } p(a;) { f(a;nil) || g(a;); }",
-            Answer::Read,
-        ),
-        (b"f(y) { } p(a;) { f(a) || f(a); }", Answer::Read),
-        (
-            b"f() [v == nil] { v = nil; g(); } g() { } h() { with r when (true) { f(); } }",
-            Answer::Read,
-        ),
-        (b"", Answer::Read),
-        (b" /* */ ", Answer::Read),
-        (b"f() { x = ; }", unexpected(11)),
-        (b"f() { f(x, 3; x); }", unexpected(13)),
-        (b"f() { f(x, y; x, 3); }", Answer::Read),
-        (b"f() { f(; 3); }", Answer::Read),
-        (b"f() { f(x;); }", Answer::Read),
-        (b"f() { f(x, ; 3); }", unexpected(12)),
-        (b"f() { dispose(x; }", unexpected(16)),
-        (b"f() { local x, y z; }", unexpected(18)),
-        (b"f() { while (true) [emp] { } }", Answer::Read),
-        (b"f() { while (true) [emp } }", unexpected(25)),
-        (b"f() { with r (true) { } }", unexpected(14)),
-        (b"f() { ; }", unexpected(7)),
-        (b"f() { } }", unexpected(9)),
-        (b"f() { } [emp] [emp]", unexpected(15)),
-        (b"f() { /* */ ", unexpected(13)),
-        (
-            b"f() {\n",
-            Answer::Refused(ParseFault::Unexpected(at(2, 1))),
-        ),
-        (
-            b"f() {\n  x = y\n}",
-            Answer::Refused(ParseFault::Unexpected(at(3, 1))),
-        ),
-        (b"resource r (x) ", unexpected(16)),
-    ];
-    for (bytes, expected) in cases {
-        assert!(rt; outcome(rt.alloc(), bytes) == expected);
+    for bytes in READ {
+        assert!(rt; outcome(rt.alloc(), bytes) == Answer::Read);
+    }
+    for (bytes, (line, column)) in REFUSED {
+        let fault = ParseFault::Unexpected(at(line, column));
+        assert!(rt; outcome(rt.alloc(), bytes) == Answer::Refused(fault));
     }
 }
 
@@ -193,6 +161,12 @@ fn repeated(alloc: Global, parts: &[(&[u8], usize)]) -> Result<Vec<u8>, AllocErr
     }
     Ok(text)
 }
+
+/// The beginning of a choice between commands, which stands in front of another.
+const IF: &[u8] = b"if (true) ";
+
+/// The beginning of one between assertions.
+const CHOICE: &[u8] = b"if true then emp else ";
 
 #[test]
 fn nesting_has_sixty_four_levels(rt: HostRuntime) -> Result<(), AllocError> {
@@ -211,25 +185,11 @@ fn nesting_has_sixty_four_levels(rt: HostRuntime) -> Result<(), AllocError> {
         ),
         (b"f() { ", b"{", 63, b"if (true) ;", b"", unexpected(80)),
         (b"f() { ", b"{", 63, b"if (true) ", b"", unexpected(80)),
-        (
-            b"f() { ",
-            b"if (true) ",
-            63,
-            b"x = nil; }",
-            b"",
-            Answer::Read,
-        ),
+        (b"f() { ", IF, 63, b"x = nil; }", b"", Answer::Read),
         (b"f() [", b"(", 63, b"emp", b")", unexpected(135)),
         (b"f() [", b"(", 64, b"emp", b")", too_deep(70)),
         (b"f() [", b"(", 65, b"", b"", too_deep(70)),
-        (
-            b"f() [",
-            b"if true then emp else ",
-            64,
-            b"emp",
-            b"",
-            too_deep(1405),
-        ),
+        (b"f() [", CHOICE, 64, b"emp", b"", too_deep(1405)),
         (
             b"f() [",
             b"(",
@@ -298,45 +258,35 @@ fn first_conjuncts(file: &File) -> usize {
 
 #[test]
 fn an_else_belongs_to_the_nearest_if(rt: HostRuntime) {
-    let dangling = file(
-        rt.alloc(),
-        b"f(x;) { if (true) if (true) x = nil; else x = 1; }",
-    );
-    let own = file(
-        rt.alloc(),
-        b"f(x;) { if (true) { if (true) x = nil; } else x = 1; }",
-    );
-    assert!(rt;
-        dangling
-            .as_ref()
-            .is_some_and(|file| first_body(file) == (1, true))
-    );
-    assert!(rt;
-        own.as_ref()
-            .is_some_and(|file| first_body(file) == (1, false))
-    );
+    let cases: [(&[u8], (usize, bool)); 2] = [
+        (
+            b"f(x;) { if (true) if (true) x = nil; else x = 1; }",
+            (1, true),
+        ),
+        (
+            b"f(x;) { if (true) { if (true) x = nil; } else x = 1; }",
+            (1, false),
+        ),
+    ];
+    for (bytes, body) in cases {
+        let read = file(rt.alloc(), bytes);
+        assert!(rt; read.as_ref().is_some_and(|file| first_body(file) == body));
+    }
 }
 
 #[test]
 fn a_branch_reaches_to_the_right(rt: HostRuntime) {
-    let reaching = file(
-        rt.alloc(),
-        b"f() [if true then emp else emp * emp * emp] { }",
-    );
-    let closed = file(
-        rt.alloc(),
-        b"f() [(if true then emp else emp) * emp * emp] { }",
-    );
-    assert!(rt;
-        reaching
-            .as_ref()
-            .is_some_and(|file| first_conjuncts(file) == 1)
-    );
-    assert!(rt;
-        closed
-            .as_ref()
-            .is_some_and(|file| first_conjuncts(file) == 3)
-    );
+    let cases: [(&[u8], usize); 2] = [
+        (b"f() [if true then emp else emp * emp * emp] { }", 1),
+        (b"f() [(if true then emp else emp) * emp * emp] { }", 3),
+    ];
+    for (bytes, count) in cases {
+        let read = file(rt.alloc(), bytes);
+        assert!(rt;
+            read.as_ref()
+                .is_some_and(|file| first_conjuncts(file) == count)
+        );
+    }
 }
 
 /// The printed grammar, in letters: a capital for a rule, any other for a token.

@@ -1,7 +1,7 @@
 //! What no clause says: how texts look that were written by hand. The program has no names; texts
 //! with names are tried where programs are read.
 
-use crate::programs::empty;
+use super::programs::empty;
 use sf_base::{FieldId, Place, ProcId};
 use sf_core::{Conjunct, Operand, Program, Test};
 use sf_report::{failed, too_large};
@@ -92,36 +92,30 @@ fn what_is_wanted_is_told(rt: HostRuntime) -> Result<(), AllocError> {
     let at = Place { line: 1, column: 2 };
     let bound: Operand<Term> = Operand::Exists(0);
     let two: Operand<Term> = Operand::Known(Term::Sym(2));
-    let equal = take(alloc, at, Conjunct::Holds(at, Test::Equal(bound, two)))?;
-    assert!(rt;
-        says(
-            alloc,
-            equal,
+    let cases = [
+        (
+            Conjunct::Holds(at, Test::Equal(bound, two)),
             Stuck::NotEqual,
             "failed  at 1:2 NotEqual\n",
-            "want 12 == s2\n"
-        )?
-    );
-    let differ = take(alloc, at, Conjunct::Holds(at, Test::Differ(two, bound)))?;
-    assert!(rt;
-        says(
-            alloc,
-            differ,
+            "want 12 == s2\n",
+        ),
+        (
+            Conjunct::Holds(at, Test::Differ(two, bound)),
             Stuck::NotDifferent,
             "failed  at 1:2 NotDifferent\n",
-            "want s2 != 12\n"
-        )?
-    );
-    let cell = take(alloc, at, Conjunct::Points(at, two, Vec::new(alloc)))?;
-    assert!(rt;
-        says(
-            alloc,
-            cell,
+            "want s2 != 12\n",
+        ),
+        (
+            Conjunct::Points(at, two, Vec::new(alloc)),
             Stuck::NoAtom,
             "failed  at 1:2 NoAtom\n",
-            "want s2|->\n"
-        )?
-    );
+            "want s2|->\n",
+        ),
+    ];
+    for (wanted, kind, first, want) in cases {
+        let item = take(alloc, at, wanted)?;
+        assert!(rt; says(alloc, item, kind, first, want)?);
+    }
     Ok(())
 }
 

@@ -1,6 +1,6 @@
 //! What no clause says: what texts written by hand read as, with ample memory.
 
-use crate::programs::empty;
+use super::programs::empty;
 use sf_base::ProcId;
 use sf_proof::{Lined, ProofFault, proof_text, read};
 use sf_sym::{Tag, Term};
@@ -30,7 +30,7 @@ fn refusal(alloc: Global, text: &[u8]) -> Option<ProofFault> {
 #[test]
 fn texts_read_as_their_tags(rt: HostRuntime) {
     let most = Term::Sym(4_294_967_295);
-    let cases: [(&[u8], &[Tag], &[u32]); 11] = [
+    let cases: [(&[u8], &[Tag], &[u32]); 10] = [
         (b"accepted", &[], &[]),
         (b" \taccepted\t \r", &[], &[]),
         (b"accepted\nend", &[Tag::End], &[2]),
@@ -80,75 +80,89 @@ fn texts_read_as_their_tags(rt: HostRuntime) {
             ],
             &[2, 3, 4, 5, 6, 7, 8, 9, 10, 11, 12],
         ),
-        (
-            b"accepted\nabsurd\nassign\nnew\nthen\nelse\nloop\naround\nagain\ncall\nfork\nenter\nexit\nreturn\ngive\nbind\nsame\napart\nempty",
-            &[
-                Tag::Absurd,
-                Tag::Assign,
-                Tag::New,
-                Tag::Then,
-                Tag::Else,
-                Tag::Loop,
-                Tag::Around,
-                Tag::Again,
-                Tag::Call,
-                Tag::Fork,
-                Tag::Enter,
-                Tag::Exit,
-                Tag::Return,
-                Tag::Give,
-                Tag::Bind,
-                Tag::Same,
-                Tag::Apart,
-                Tag::Empty,
-            ],
-            &[
-                2, 3, 4, 5, 6, 7, 8, 9, 10, 11, 12, 13, 14, 15, 16, 17, 18, 19,
-            ],
-        ),
     ];
     for (text, tags, lines) in cases {
         assert!(rt; reads_as(rt.alloc(), text, tags, lines));
     }
 }
 
+/// The tags that stand alone, each with its word.
+const ALONE: [(Tag, &str); 18] = [
+    (Tag::Absurd, "absurd"),
+    (Tag::Assign, "assign"),
+    (Tag::New, "new"),
+    (Tag::Then, "then"),
+    (Tag::Else, "else"),
+    (Tag::Loop, "loop"),
+    (Tag::Around, "around"),
+    (Tag::Again, "again"),
+    (Tag::Call, "call"),
+    (Tag::Fork, "fork"),
+    (Tag::Enter, "enter"),
+    (Tag::Exit, "exit"),
+    (Tag::Return, "return"),
+    (Tag::Give, "give"),
+    (Tag::Bind, "bind"),
+    (Tag::Same, "same"),
+    (Tag::Apart, "apart"),
+    (Tag::Empty, "empty"),
+];
+
+#[test]
+fn words_alone_read_as_their_tags(rt: HostRuntime) -> Result<(), AllocError> {
+    let alloc = rt.alloc();
+    let mut text = Vec::from_slice(alloc, b"accepted")?;
+    let mut tags = Vec::new(alloc);
+    let mut lines = Vec::new(alloc);
+    for ((tag, word), line) in ALONE.iter().zip(2..) {
+        text.push(b'\n')?;
+        text.extend_from_slice(word.as_bytes())?;
+        tags.push(*tag)?;
+        lines.push(line)?;
+    }
+    assert!(rt; reads_as(alloc, &text, &tags, &lines));
+    Ok(())
+}
+
+/// Texts that are no proof, and the first of their lines that is none.
+const NO_PROOFS: [(&[u8], u32); 32] = [
+    (b"", 1),
+    (b"\n", 1),
+    (b"\naccepted", 1),
+    (b"acceptedend", 1),
+    (b"accepted end", 1),
+    (b"Accepted", 1),
+    (b"accepted\r\r", 1),
+    (b"accepted\r ", 1),
+    (b"end\nfoo", 1),
+    (b"accepted\naccepted", 2),
+    (b"accepted\n\n\nfoo\nbar", 4),
+    (b"accepted\nend\nEnd", 3),
+    (b"accepted\nend end", 2),
+    (b"accepted\nend 1", 2),
+    (b"accepted\ncell", 2),
+    (b"accepted\ncell 1 2", 2),
+    (b"accepted\ncell x", 2),
+    (b"accepted\ncell -1", 2),
+    (b"accepted\ncell +1", 2),
+    (b"accepted\ncell 4294967296", 2),
+    (b"accepted\ncell 1\r\r\nend", 2),
+    (b"accepted\nback", 2),
+    (b"accepted\nback s1", 2),
+    (b"accepted\nback 1 1", 2),
+    (b"accepted\nsplit s0", 2),
+    (b"accepted\nsplit s0 s1 s2", 2),
+    (b"accepted\nsplit s0 s4294967296", 2),
+    (b"accepted\nsplit nil 9223372036854775808", 2),
+    (b"accepted\nsplit nil NULL", 2),
+    (b"accepted\nprocedure", 2),
+    (b"accepted\nprocedure nil", 2),
+    (b"accepted\nprocedure _f", 2),
+];
+
 #[test]
 fn the_first_line_that_is_none_is_named(rt: HostRuntime) {
-    let cases: [(&[u8], u32); 32] = [
-        (b"", 1),
-        (b"\n", 1),
-        (b"\naccepted", 1),
-        (b"acceptedend", 1),
-        (b"accepted end", 1),
-        (b"Accepted", 1),
-        (b"accepted\r\r", 1),
-        (b"accepted\r ", 1),
-        (b"end\nfoo", 1),
-        (b"accepted\naccepted", 2),
-        (b"accepted\n\n\nfoo\nbar", 4),
-        (b"accepted\nend\nEnd", 3),
-        (b"accepted\nend end", 2),
-        (b"accepted\nend 1", 2),
-        (b"accepted\ncell", 2),
-        (b"accepted\ncell 1 2", 2),
-        (b"accepted\ncell x", 2),
-        (b"accepted\ncell -1", 2),
-        (b"accepted\ncell +1", 2),
-        (b"accepted\ncell 4294967296", 2),
-        (b"accepted\ncell 1\r\r\nend", 2),
-        (b"accepted\nback", 2),
-        (b"accepted\nback s1", 2),
-        (b"accepted\nback 1 1", 2),
-        (b"accepted\nsplit s0", 2),
-        (b"accepted\nsplit s0 s1 s2", 2),
-        (b"accepted\nsplit s0 s4294967296", 2),
-        (b"accepted\nsplit nil 9223372036854775808", 2),
-        (b"accepted\nsplit nil NULL", 2),
-        (b"accepted\nprocedure", 2),
-        (b"accepted\nprocedure nil", 2),
-        (b"accepted\nprocedure _f", 2),
-    ];
-    for (text, line) in cases {
+    for (text, line) in NO_PROOFS {
         assert!(rt; refusal(rt.alloc(), text) == Some(ProofFault::BadLine(line)));
     }
 }

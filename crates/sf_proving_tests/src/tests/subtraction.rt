@@ -6,40 +6,13 @@ ghost use Rattle.sf_consume.specs.Subtract.{new_symbols};
 ghost use Rattle.sf_core.specs.Program.Syntax.{also, none};
 ghost use Rattle.sf_core.specs.Program.View.{conjunct_of};
 
-use sf_base::{FieldId, Place};
+use super::programs::{BACK, HERE, LEFT, NEXT, RIGHT, X, Y, Z, blank};
 use sf_consume::{ConsumeFault, subtract};
-use sf_core::{Conjunct, Links, Operand, Test};
+use sf_core::{Conjunct, Operand, Test};
 use sf_sym::{Atom, FieldTerms, Pending, State, Tag, Term};
 use std::alloc::{AllocError, Global};
 
-const X: Term = Term::Sym(0);
-
-const Y: Term = Term::Sym(1);
-
-const Z: Term = Term::Sym(2);
-
 const FRESH: Term = Term::Sym(3);
-
-const NEXT: FieldId = FieldId(0);
-
-const LEFT: FieldId = FieldId(1);
-
-const RIGHT: FieldId = FieldId(2);
-
-const BACK: FieldId = FieldId(3);
-
-const HERE: Place = Place { line: 1, column: 1 };
-
-/// A state with the symbols X, Y and Z, of which nothing is known.
-fn blank(alloc: Global) -> Result<State, AllocError> {
-    let links = Links {
-        tl: Some(NEXT),
-        pv: Some(BACK),
-        l: Some(LEFT),
-        r: Some(RIGHT),
-    };
-    State::new(alloc, links, Vec::new(alloc), 3)
-}
 
 /// One wanted conjunct, with one existential that has no term.
 fn wanted(alloc: Global, c: Conjunct<Term>) -> Result<Pending, AllocError>
