@@ -168,72 +168,49 @@ pub some-command : EachFileHasAnAnswer → EachProofHasAnAnswer → EachRunHasAn
     → EachCommandHasAnAnswer
 some-command each proofs runs demos rankings replays witnesses journals files words one there = go (order_of words) refl
   where
-    said : (o : Option Order) → order_of words ≡ o → OrderAnswer (Some files) o usage_text 2
+    answered : (o : Option Order) → order_of words ≡ o → (text : Text) (status : ℕ) → OrderAnswer (Some files) o text status
         → (text : Text) × (status : ℕ) × Answer files words text status
-    said o e a = (usage_text, 2, subst (λ (o : Option Order). OrderAnswer (Some files) o usage_text 2) (sym e) a)
+    answered o e text status a =
+        (text, status, subst (λ (o : Option Order). OrderAnswer (Some files) o text status) (sym e) a)
 
     go : (o : Option Order) → order_of words ≡ o → (text : Text) × (status : ℕ) × Answer files words text status
-    go None e = said None e (refl, refl)
+    go None e = answered None e usage_text 2 (refl, refl)
     go (Some (demo procedures)) e =
-        let a = demos procedures in (
-          a.0,
-          a.1,
-          subst (λ (o : Option Order). OrderAnswer (Some files) o a.0 a.1) (sym e) a.2,
-        )
+        let a = demos procedures in
+        answered _ e a.0 a.1 a.2
     go (Some (verify file workers)) e =
         let found = there file (subst (λ (o : Option Order). Names o file) (sym e) refl) in
-        let a = each found.0 in (
-          a.0,
-          a.1,
-          subst (λ (o : Option Order). OrderAnswer (Some files) o a.0 a.1) (sym e) (found.0, found.1, a.2),
-        )
+        let a = each found.0 in
+        answered _ e a.0 a.1 (found.0, found.1, a.2)
     go (Some (recheck file name)) e =
         let found = there file (subst (λ (o : Option Order). Names o file) (sym e) (inl refl)) in
         let given = there name (subst (λ (o : Option Order). Names o name) (sym e) (inr refl)) in
         let b = each found.0 in
-        let a = some-recheck proofs files found.0 name given.0 given.1 b.0 b.1 b.2 in (
-          a.0,
-          a.1,
-          subst (λ (o : Option Order). OrderAnswer (Some files) o a.0 a.1) (sym e) (found.0, found.1, a.2),
-        )
+        let a = some-recheck proofs files found.0 name given.0 given.1 b.0 b.1 b.2 in
+        answered _ e a.0 a.1 (found.0, found.1, a.2)
     go (Some (run file entry state steps waits)) e =
         let found = there file (subst (λ (o : Option Order). Names o file) (sym e) (inl refl)) in
         let given = there state (subst (λ (o : Option Order). Names o state) (sym e) (inr refl)) in
         let alone = subst (λ (o : Option Order). IsAlone files o) e one in
-        let a = runs files found.0 entry state given.0 steps waits given.1 (alone found.0 given.0 found.1 given.1) in (
-          a.0,
-          a.1,
-          subst (λ (o : Option Order). OrderAnswer (Some files) o a.0 a.1) (sym e) (found.0, found.1, a.2),
-        )
+        let a = runs files found.0 entry state given.0 steps waits given.1 (alone found.0 given.0 found.1 given.1) in
+        answered _ e a.0 a.1 (found.0, found.1, a.2)
     go (Some (journal file entry state steps waits)) e =
         let found = there file (subst (λ (o : Option Order). Names o file) (sym e) (inl refl)) in
         let given = there state (subst (λ (o : Option Order). Names o state) (sym e) (inr refl)) in
         let alone = subst (λ (o : Option Order). IsAlone files o) e one in
-        let a = journals files found.0 entry state given.0 steps waits given.1 (alone found.0 given.0 found.1 given.1) in (
-          a.0,
-          a.1,
-          subst (λ (o : Option Order). OrderAnswer (Some files) o a.0 a.1) (sym e) (found.0, found.1, a.2),
-        )
+        let a = journals files found.0 entry state given.0 steps waits given.1 (alone found.0 given.0 found.1 given.1) in
+        answered _ e a.0 a.1 (found.0, found.1, a.2)
     go (Some (ranking file)) e =
         let found = there file (subst (λ (o : Option Order). Names o file) (sym e) refl) in
-        let a = rankings found.0 in (
-          a.0,
-          a.1,
-          subst (λ (o : Option Order). OrderAnswer (Some files) o a.0 a.1) (sym e) (found.0, found.1, a.2),
-        )
+        let a = rankings found.0 in
+        answered _ e a.0 a.1 (found.0, found.1, a.2)
     go (Some (witness file)) e =
         let found = there file (subst (λ (o : Option Order). Names o file) (sym e) refl) in
-        let a = witnesses found.0 in (
-          a.0,
-          a.1,
-          subst (λ (o : Option Order). OrderAnswer (Some files) o a.0 a.1) (sym e) (found.0, found.1, a.2),
-        )
+        let a = witnesses found.0 in
+        answered _ e a.0 a.1 (found.0, found.1, a.2)
     go (Some (replay file entry state schedule)) e =
         let found = there file (subst (λ (o : Option Order). Names o file) (sym e) (inl refl)) in
         let given = there state (subst (λ (o : Option Order). Names o state) (sym e) (inr (inl refl))) in
         let events = there schedule (subst (λ (o : Option Order). Names o schedule) (sym e) (inr (inr refl))) in
-        let a = replays files found.0 entry state schedule given.0 events.0 given.1 events.1 in (
-          a.0,
-          a.1,
-          subst (λ (o : Option Order). OrderAnswer (Some files) o a.0 a.1) (sym e) (found.0, found.1, a.2),
-        )
+        let a = replays files found.0 entry state schedule given.0 events.0 given.1 events.1 in
+        answered _ e a.0 a.1 (found.0, found.1, a.2)

@@ -79,16 +79,21 @@ module _ (l : ReplayLayers) (p : Program) (f : ProcId) (m n : Bool) (v w : Vars)
   start-same W V a b = sym (replays-start l.beginnings p f m n v w h k a.start b.start same.vars same.cells same.fresh
       a.begins b.begins)
 
+  -- what is so of the schedule at the other start is so at the first
+  at-start : (P : Config → List Scheduled → Type 0) (W : Config → Type 0) (schedule more : List Scheduled)
+      → more ≡ schedule → (a : FromStart p f m v h W) → (b : FromStart p f n w k (λ c. P c more)) → P a.start schedule
+  at-start P W schedule more e a b =
+      subst (λ (z : Config). P z schedule) (start-same W (λ c. P c more) a b)
+      (subst (λ (z : List Scheduled). P b.start z) e b.what)
+
   -- what is found of one schedule from there is one thing
   replays-found : (schedule more : List Scheduled) (one other : Found) → more ≡ schedule
       → FromStart p f m v h (λ c. Finds p c (events_of schedule) one)
       → FromStart p f n w k (λ c. Finds p c (events_of more) other) → one ≡ other
   unfolding EventsAreReplayedOnce
   replays-found schedule more one other e a b =
-      let start = start-same (λ c. Finds p c (events_of schedule) one) (λ c. Finds p c (events_of more) other) a b in
-      let moved = subst (λ (z : List Scheduled). Finds p b.start (events_of z) other) e b.what in
       (l.events p a.start (events_of schedule)).found one other a.what
-      (subst (λ (z : Config). Finds p z (events_of schedule) other) start moved)
+      (at-start (λ c s. Finds p c (events_of s) other) (λ c. Finds p c (events_of schedule) one) schedule more e a b)
 
   -- so is why nothing is
   replays-fault : (schedule more : List Scheduled) (one other : ReplayFault) → more ≡ schedule
@@ -96,10 +101,8 @@ module _ (l : ReplayLayers) (p : Program) (f : ProcId) (m n : Bool) (v w : Vars)
       → FromStart p f n w k (λ c. Stops p c (events_of more) other) → one ≡ other
   unfolding EventsAreReplayedOnce
   replays-fault schedule more one other e a b =
-      let start = start-same (λ c. Stops p c (events_of schedule) one) (λ c. Stops p c (events_of more) other) a b in
-      let moved = subst (λ (z : List Scheduled). Stops p b.start (events_of z) other) e b.what in
       (l.events p a.start (events_of schedule)).faults one other a.what
-      (subst (λ (z : Config). Stops p z (events_of schedule) other) start moved)
+      (at-start (λ c s. Stops p c (events_of s) other) (λ c. Stops p c (events_of schedule) one) schedule more e a b)
 
   -- and not both
   replays-apart : (schedule more : List Scheduled) (found : Found) (fault : ReplayFault) → more ≡ schedule
@@ -107,20 +110,17 @@ module _ (l : ReplayLayers) (p : Program) (f : ProcId) (m n : Bool) (v w : Vars)
       → FromStart p f n w k (λ c. Stops p c (events_of more) fault) → ⊥
   unfolding EventsAreReplayedOnce
   replays-apart schedule more found fault e a b =
-      let start = start-same (λ c. Finds p c (events_of schedule) found) (λ c. Stops p c (events_of more) fault) a b in
-      let moved = subst (λ (z : List Scheduled). Stops p b.start (events_of z) fault) e b.what in
       (l.events p a.start (events_of schedule)).apart found fault a.what
-      (subst (λ (z : Config). Stops p z (events_of schedule) fault) start moved)
+      (at-start (λ c s. Stops p c (events_of s) fault) (λ c. Finds p c (events_of schedule) found) schedule more e a b)
 
   replays-apart_back : (schedule more : List Scheduled) (found : Found) (fault : ReplayFault) → more ≡ schedule
       → FromStart p f m v h (λ c. Stops p c (events_of schedule) fault)
       → FromStart p f n w k (λ c. Finds p c (events_of more) found) → ⊥
   unfolding EventsAreReplayedOnce
   replays-apart_back schedule more found fault e a b =
-      let start = start-same (λ c. Stops p c (events_of schedule) fault) (λ c. Finds p c (events_of more) found) a b in
-      let moved = subst (λ (z : List Scheduled). Finds p b.start (events_of z) found) e b.what in
       (l.events p a.start (events_of schedule)).apart found fault
-      (subst (λ (z : Config). Finds p z (events_of schedule) found) start moved) a.what
+      (at-start (λ c s. Finds p c (events_of s) found) (λ c. Stops p c (events_of schedule) fault) schedule more e a b)
+      a.what
 
   -- the text of a schedule has one answer
   replays-text : (given text other : Text) (status code : ℕ) → ScheduleAnswer p f m v h given text status

@@ -40,6 +40,7 @@ use Rattle.sf_threads.specs.declared.stop.Stop.{Stop}
 use Rattle.sf_threads.specs.declared.stop.Stop.TheVariants.{Steps, Waits, OutOfMemory}
 use Rattle.sf_state.specs.declared.fault.StartFault.{StartFault}
 use Rattle.sf_state.specs.declared.fault.StartFault.TheVariants as fault
+use Rattle.sf_state.specs.Entering.{IsEntry}
 use Rattle.sf_state.specs.Names.{Format, format_of}
 use Rattle.sf_state.specs.Starts.{DecidesStart, IsStartFault, IsStartText, left_over, refused, unmet}
 use Rattle.sf_state.specs.Stated.{lines_refusal, text_refusal}
@@ -47,7 +48,7 @@ use Rattle.sf_state.specs.Says.{entries_of}
 use Rattle.sf_cli.proofs.EndTexts.{end-written}
 use Rattle.sf_cli.proofs.Replies.{increased-later, long-fault, long-reads, reply-unread}
 use Rattle.sf_cli.proofs.Kept.{kept-map, kept-order, kept-state, kept-status, kept-unfinished}
-use Rattle.sf_cli.specs.Answer.{AreRun, IsRun, OrderAnswer, Reaches, Reply, RunAnswer, RunFileAnswer, RunFileJournal, RunJournal, admitted_run, answer, entered, read_fault_text, refused_run}
+use Rattle.sf_cli.specs.Answer.{AreRun, IsProved, IsRun, OrderAnswer, Reaches, Reply, RunAnswer, RunFileAnswer, RunFileJournal, RunJournal, admitted_run, answer, entered, read_fault_text, refused_run}
 use Rattle.sf_cli.specs.FileFault.{Admits}
 use Rattle.sf_cli.specs.SoundFile.{MayHave}
 use Rattle.sf_cli.specs.declared.reply.Said.{Said}
@@ -78,6 +79,14 @@ entry-there a f less =
 pub entry-holds : (P Q : Procedure → Type 0) (o : Option Procedure) → ((g : Procedure) → P g → Q g) → IfSome o P → IfSome o Q
 entry-holds P Q None f h = tt
 entry-holds P Q (Some g) f h = f g h
+
+-- the procedure that was found is the one that is run
+pub entry-run : (a b : Arranged) (name : Text) (f : ProcId) → a ≡ b → IsProved (program_of b.program)
+    → IsEntry (program_of a.program) name f → IsRun (program_of b.program) name f
+entry-run a b name f same proved found = record {
+  proved = proved;
+  is_entry = subst (λ (z : Arranged). IsEntry (program_of z.program) name f) same found;
+}
 
 -- a reason that isn't want of memory
 pub entry-refused : (P : StartFault → Type 0) (e : StartFault) → (e ≡ fault.OutOfMemory) ⊎ P e

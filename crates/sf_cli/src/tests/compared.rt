@@ -16,7 +16,7 @@ mod grab;
 mod last;
 mod one_way;
 mod queue;
-mod reverse;
+pub mod reverse;
 mod ring;
 mod scopes;
 mod swap;
@@ -24,8 +24,11 @@ mod tied;
 mod twice;
 mod walk;
 
+use super::are_answered;
+use std::test::Fail;
+
 /// Files that it proves.
-pub const PROVED: [(&[u8], &str); 12] = [
+pub const PROVED: [(&str, &str); 12] = [
     buffer::FILE,
     ring::FILE,
     scopes::FILE,
@@ -41,7 +44,7 @@ pub const PROVED: [(&[u8], &str); 12] = [
 ];
 
 /// Files with a procedure that it has no proof of.
-pub const FAILED: [(&[u8], &str); 10] = [
+pub const FAILED: [(&str, &str); 10] = [
     tied::FILE,
     twice::FILE,
     filter::FILE,
@@ -53,3 +56,9 @@ pub const FAILED: [(&[u8], &str); 10] = [
     walk::FILE,
     one_way::FILE,
 ];
+
+#[test]
+fn answers_are_those_of_another_implementation(rt: HostRuntime) -> Result<(), Fail> {
+    are_answered(&rt, &PROVED)?;
+    are_answered(&rt, &FAILED)
+}

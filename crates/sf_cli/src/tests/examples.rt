@@ -1,13 +1,13 @@
 //! The files of examples/, copied, and the answers to them, worked out by hand.
 
 /// The files of examples/, and their answers.
-pub const EXAMPLES: [(&[u8], &str); 21] = [
+pub const EXAMPLES: [(&str, &str); 21] = [
     (
-        b"set(x) [x|->] { x->tl = 3; } [x|->tl:3]\n",
+        "set(x) [x|->] { x->tl = 3; } [x|->tl:3]\n",
         "accepted\nprocedure set\nadd\nmutate 1\nreturn\ncell 1\nend\n",
     ),
     (
-        b"swap(x, y) [x|->tl:y * y|->tl:x] {
+        "swap(x, y) [x|->tl:y * y|->tl:x] {
   x->tl = x;
   y->tl = y;
   x->hd = y;
@@ -19,7 +19,7 @@ add; add; mutate 1; mutate 2; mutate 1; mutate 2; return; cell 1; cell 2; end
 ",
     ),
     (
-        b"leak(x, y) [x|-> * y|->] {\n  y->tl = x;\n} [y|->tl:x]\n",
+        "leak(x, y) [x|-> * y|->] {\n  y->tl = x;\n} [y|->tl:x]\n",
         "failed leak at 3:1 Leak
 vars x = s0, y = s1
 apart s0 != nil, s1 != nil
@@ -29,11 +29,11 @@ want emp
 ",
     ),
     (
-        b"twice(x) [x|-> * x|->] { } [x|->hd:1]\n",
+        "twice(x) [x|-> * x|->] { } [x|->hd:1]\n",
         "accepted\nprocedure twice\nadd\nadd\nabsurd\n",
     ),
     (
-        b"/* A list is turned round in place: cell by cell, from the front of what is left to the front of the answer. */
+        "/* A list is turned round in place: cell by cell, from the front of what is left to the front of the answer. */
 reverse(turned; rest) [list(rest)] {
   local next;
   turned = nil;
@@ -51,7 +51,7 @@ assign; assign; again; exact 5; head 4; exact 3; end; add; add; add; drop 2; ret
 ",
     ),
     (
-        b"/* A walk to the last cell of one list, whose link then leads to the other. */
+        "/* A walk to the last cell of one list, whose link then leads to the other. */
 append(first; more) [list(first) * list(more)] {
   local last, next;
   if (first == nil) {
@@ -75,7 +75,7 @@ add; add; add; add; drop 7; mutate 6; return; join 5; head 6; exact 8; end
 ",
     ),
     (
-        b"/* As append.sf, but the first list may be empty, and then it has no last cell. */
+        "/* As append.sf, but the first list may be empty, and then it has no last cell. */
 append(first; more) [list(first) * list(more)] {
   local last, next;
   last = first;
@@ -96,7 +96,7 @@ want cell nil
 ",
     ),
     (
-        b"/* A tree is turned to the right: the left child becomes the root, and the old root its right child. */
+        "/* A tree is turned to the right: the left child becomes the root, and the old root its right child. */
 rotate(root;) [tree(root)] {
   local child, inner;
   if (root != nil) {
@@ -117,7 +117,7 @@ return; node 5; exact 6; node 2; exact 7; exact 4; end
 ",
     ),
     (
-        b"/* All cells of a tree are given up, those of the subtrees first; nothing is left. */
+        "/* All cells of a tree are given up, those of the subtrees first; nothing is left. */
 fell(root) [tree(root)] {
   local left, right;
   if (root != nil) {
@@ -135,7 +135,7 @@ call; exact 4; give; dispose 2; return; end
 ",
     ),
     (
-        b"/* Every second cell of a list is given up: two procedures call each other in turn. */
+        "/* Every second cell of a list is given up: two procedures call each other in turn. */
 keep(at;) [list(at)] {
   local next;
   if (at != nil) {
@@ -163,7 +163,7 @@ call; exact 3; give; add; return; exact 4; end
 ",
     ),
     (
-        b"/* Cells that nobody uses, behind a resource: one is handed out, or made where there is none, and one is put back. */
+        "/* Cells that nobody uses, behind a resource: one is handed out, or made where there is none, and one is put back. */
 resource pool (spare) [list(spare)]
 obtain(cell;) {
   with pool when (true) {
@@ -187,7 +187,7 @@ add; enter; add; mutate 1; assign; exit; head 1; exact 2; give; return; end
 ",
     ),
     (
-        b"/* One place through which a cell goes from one thread to another; `full` says whether a cell is in it. */
+        "/* One place through which a cell goes from one thread to another; `full` says whether a cell is in it. */
 resource place (held, full) [if full == 1 then held|-> else emp]
 send(cell) [cell|->] {
   with place when (full != 1) { held = cell; full = 1; }
@@ -214,7 +214,7 @@ fork; give; return; end
 ",
     ),
     (
-        b"/* Two workers take jobs from one list, do them on their own, and hang them into another, until no job is left. */
+        "/* Two workers take jobs from one list, do them on their own, and hang them into another, until no job is left. */
 resource jobs (todo) [list(todo)]
 resource results (done) [list(done)]
 worker() {
@@ -240,7 +240,7 @@ fork; give; return; end
 ",
     ),
     (
-        b"/* As fell.sf, but both subtrees at once, each by a thread of its own: they have no cell in common. */
+        "/* As fell.sf, but both subtrees at once, each by a thread of its own: they have no cell in common. */
 fell(root) [tree(root)] {
   local left, right;
   if (root != nil) {
@@ -257,7 +257,7 @@ exact 4; give; dispose 2; return; end
 ",
     ),
     (
-        b"/* As buffer.sf, but the cell is written after it has been sent, when the receiver may have given it up. */
+        "/* As buffer.sf, but the cell is written after it has been sent, when the receiver may have given it up. */
 resource place (held, full) [if full == 1 then held|-> else emp]
 send(cell) [cell|->] {
   with place when (full != 1) { held = cell; full = 1; }
@@ -276,7 +276,7 @@ want cell s0
 ",
     ),
     (
-        b"/* Two threads would write one field of one cell: it can't be handed to both. */
+        "/* Two threads would write one field of one cell: it can't be handed to both. */
 mark(cell) [cell|->] { cell->hd = 1; } [cell|->]
 both(cell) [cell|->] { mark(cell) || mark(cell); } [cell|->]
 ",
@@ -289,7 +289,7 @@ want s0|->
 ",
     ),
     (
-        b"/* The count is read while another thread may be changing it. */
+        "/* The count is read while another thread may be changing it. */
 resource tally (count) []
 record(number) { with tally when (true) { count = number; } }
 look(number;) { number = count; }
@@ -298,7 +298,7 @@ both(number;) { record(1) || look(number;); }
         "file refused: 30 NotHeld at 4:26 count\n",
     ),
     (
-        b"/* Two procedures enter the same two resources in opposite order. All of it is proved; but each may have one and wait for
+        "/* Two procedures enter the same two resources in opposite order. All of it is proved; but each may have one and wait for
    the other, and then neither goes on. `order` shows that circle. */
 resource orders (last) [emp]
 resource stock (pieces) [emp]
@@ -326,7 +326,7 @@ fork; give; return; end
 ",
     ),
     (
-        b"/* A doubly linked list, with its first and its last cell at hand: a cell is added behind the last one, one is taken out of
+        "/* A doubly linked list, with its first and its last cell at hand: a cell is added behind the last one, one is taken out of
    the middle, and all are visited from the back. */
 hd, tl, pv;
 
@@ -380,7 +380,7 @@ split s0 nil; force 2; drop 2; force 3; drop 3; empty; end; join 2; exact 3; end
 ",
     ),
     (
-        b"/* As in doubly.sf, but the cell behind the one that is taken out still points back at it. */
+        "/* As in doubly.sf, but the cell behind the one that is taken out still points back at it. */
 hd, tl, pv;
 
 remove(first, last; cell) [dll(first,nil,_before,cell) * cell|->tl:_after,pv:_before * dll(_after,cell,last,nil)] {
@@ -402,7 +402,7 @@ want s0 == nil
 ",
     ),
     (
-        b"/* Jobs in a doubly linked list that threads share: its owner puts jobs at the back and takes the newest from there, and others
+        "/* Jobs in a doubly linked list that threads share: its owner puts jobs at the back and takes the newest from there, and others
    take the oldest from the front. */
 hd, tl, pv;
 

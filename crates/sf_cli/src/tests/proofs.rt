@@ -1,7 +1,11 @@
 //! Texts of proofs, and what is said of them, worked out by hand.
 
+use super::{Host, says, shelf_with, text_of};
+use sf_io::MemShelf;
+use std::test::Fail;
+
 /// A procedure that calls another; the proof of the call, and without the row that takes the cell.
-pub const CALL_PROOFS: [(&[u8], &str, &str); 2] = [
+const CALL_PROOFS: [(&[u8], &str, &str); 2] = [
     (
         b"f(x) [x|->] { dispose(x); }\ng(x) [x|->] { f(x); }\n",
         "accepted; procedure f
@@ -24,7 +28,7 @@ add; call; give; return; end
 
 /// How texts read: blanks, empty lines, carriage returns and zeros count for nothing, and the first
 /// fault is told.
-pub const TEXTS: [(&[u8], &str, &str); 19] = [
+const TEXTS: [(&[u8], &str, &str); 19] = [
     (
         b"set(x) [x|->] { x->tl = 3; } [x|->tl:3]",
         "accepted\nprocedure set\nadd\nmutate 1\nreturn\ncell 1\nend\n",
@@ -115,7 +119,7 @@ pub const TEXTS: [(&[u8], &str, &str); 19] = [
 ];
 
 /// Proofs by each of the rules of states and of subtraction.
-pub const ACCEPTED: [(&[u8], &str, &str); 14] = [
+const ACCEPTED: [(&[u8], &str, &str); 14] = [
     (
         b"f(x,y) [ls(x,y) * list(y)] { } [list(x)]\n",
         "accepted; procedure f
@@ -202,7 +206,7 @@ head 4; empty; exact 5; end; add; add; add; drop 3; return; exact 2; end
 ];
 
 /// Proofs with one tag that has no row, by some condition of its rule.
-pub const REFUSED: [(&[u8], &str, &str); 9] = [
+const REFUSED: [(&[u8], &str, &str); 9] = [
     (
         b"f(x,y,z) [ls(x,y) * ls(y,z)] { } [ls(x,z)]\n",
         "accepted\nprocedure f\nadd\nadd\nreturn\njoin 1\n",
@@ -249,3 +253,36 @@ pub const REFUSED: [(&[u8], &str, &str); 9] = [
         "proof refused: line 8 kind 62\n",
     ),
 ];
+
+/// `recheck` says what is beside them of the files and the texts of their proofs.
+pub fn are_rechecked(rt: &impl Host, cases: &[(&[u8], &str, &str)]) -> Result<(), Fail> {
+    let alloc = rt.alloc();
+    for (file, proof, answer) in cases {
+        let mut shelf = MemShelf::new(alloc);
+        shelf.add("p.sf", file)?;
+        shelf.add("p.proof", text_of(alloc, proof)?.as_bytes())?;
+        let words = ["recheck", "p.sf", "p.proof"];
+        let status = if answer.starts_with("accepted") { 0 } else { 4 };
+        says(rt, &words, &mut shelf, (answer, status))?;
+    }
+    Ok(())
+}
+
+#[test]
+fn proofs_have_their_answers(rt: HostRuntime) -> Result<(), Fail> {
+    are_rechecked(&rt, &CALL_PROOFS)?;
+    are_rechecked(&rt, &TEXTS)?;
+    are_rechecked(&rt, &ACCEPTED)?;
+    are_rechecked(&rt, &REFUSED)
+}
+
+#[test]
+fn a_proof_may_be_too_long(rt: HostRuntime) -> Result<(), Fail> {
+    let alloc = rt.alloc();
+    let mut shelf = shelf_with(alloc, "")?;
+    let long = vec![in alloc; b' '; 33_554_433]?;
+    shelf.add("long", long.as_slice())?;
+    let words = ["recheck", "set.sf", "long"];
+    let answer = ("proof refused: line 1 kind 51\n", 4);
+    says(&rt, &words, &mut shelf, answer)
+}

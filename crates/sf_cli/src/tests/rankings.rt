@@ -1,7 +1,10 @@
 //! Files whose resources are ranked, and what is said of them, worked out by hand.
 
+use super::{are_said, says, shelf_with};
+use std::test::Fail;
+
 /// Files, what `order` says of them, and its status.
-pub const RANKINGS: [(&str, &str, u8); 19] = [
+const RANKINGS: [(&str, &str, u8); 19] = [
     // The one inside the other
     (
         "resource a (v) []
@@ -233,9 +236,19 @@ f() { with a when (true) { with a when (true) { } } }",
 ];
 
 /// Files of `files`, and what is said of them.
-pub const RANKED_FILES: [(&[&str], &str, &str, u8); 4] = [
-    (&["order", "tree.sf"], "", "order\n", 0),
-    (&["order", "mm.sf"], "", "order\n0 mm\n", 0),
-    (&["order", "--", "set.sf"], "", "order\n", 0),
-    (&["order", "none.sf"], "", "read fault: none.sf\n", 7),
+const RANKED_FILES: [(&str, &str, &str, u8); 4] = [
+    ("order tree.sf", "", "order\n", 0),
+    ("order mm.sf", "", "order\n0 mm\n", 0),
+    ("order -- set.sf", "", "order\n", 0),
+    ("order none.sf", "", "read fault: none.sf\n", 7),
 ];
+
+#[test]
+fn resources_are_ranked(rt: HostRuntime) -> Result<(), Fail> {
+    let alloc = rt.alloc();
+    for (file, answer, status) in RANKINGS {
+        let mut shelf = shelf_with(alloc, file)?;
+        says(&rt, &["order", "given"], &mut shelf, (answer, status))?;
+    }
+    are_said(&rt, &RANKED_FILES)
+}

@@ -1,11 +1,10 @@
 //! How many tags a proof may have: procedures whose proof doubles with each of their commands.
 
+use super::Host;
 use crate::top::smallfoot;
 use sf_io::{MemShelf, MemSink, OpenGate};
 use std::alloc::{AllocError, Global};
-use std::sync::Wait;
 use std::test::Fail;
-use std::thread::Threads;
 
 /// Appends a procedure that tests so many values in a row, on one line: each test holds or doesn't,
 /// so its proof has 5 * 2^tests - 3 tags.
@@ -23,11 +22,8 @@ fn add_wide(alloc: Global, file: &mut String, name: &str, tests: u32) -> Result<
 }
 
 /// What is said of that file, and with which status.
-fn verified<R: Threads + Wait + Sync>(
-    rt: &R,
-    alloc: Global,
-    file: &str,
-) -> Result<(Vec<u8>, u8), Fail> {
+fn verified(rt: &impl Host, file: &str) -> Result<(Vec<u8>, u8), Fail> {
+    let alloc = rt.alloc();
     let mut shelf = MemShelf::new(alloc);
     shelf.add("wide.sf", file.as_bytes())?;
     let mut sink = MemSink::new(alloc, usize::MAX);
@@ -41,7 +37,7 @@ fn the_largest_proof_is_printed(rt: HostRuntime) -> Result<(), Fail> {
     let alloc = rt.alloc();
     let mut file = String::new(alloc);
     add_wide(alloc, &mut file, "w", 15)?;
-    let (text, status) = verified(&rt, alloc, file.as_str())?;
+    let (text, status) = verified(&rt, file.as_str())?;
     assert_eq!(rt; status, 0);
     assert!(rt;
         text.as_slice()
@@ -67,7 +63,7 @@ fn a_proof_may_be_too_large(rt: HostRuntime) -> Result<(), Fail> {
         (four.as_str(), b"failed w4 at 4:1 TooLarge\n"),
     ];
     for (file, answer) in cases {
-        let (text, status) = verified(&rt, alloc, file)?;
+        let (text, status) = verified(&rt, file)?;
         assert_eq!(rt; text.as_slice(), answer);
         assert_eq!(rt; status, 1);
     }

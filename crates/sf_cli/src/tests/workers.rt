@@ -35,7 +35,7 @@ fn two_workers_search_side_by_side(rt: HostRuntime) -> Result<(), Fail> {
     let gate = gate_of_two(alloc)?;
     let mut shelf = shelf_with(alloc, "")?;
     let words = ["verify", "mm.sf", "--workers", "2"];
-    says_at(&rt, alloc, &words, &mut shelf, (mm::PROOF, 0), &gate)?;
+    says_at(&rt, &words, &mut shelf, (mm::PROOF, 0), &gate)?;
     let [one, other] = points_of(1);
     assert!(rt; gate.passes(&one) > 0 || gate.passes(&other) > 0);
     assert!(rt; gate.turns_left() > 0);
@@ -47,10 +47,10 @@ fn every_number_of_workers_has_the_answer_of_one(rt: HostRuntime) -> Result<(), 
     let alloc = rt.alloc();
     for workers in ["1", "2", "4", "64"] {
         let words = ["verify", "p.sf", "--workers", workers];
-        for (bytes, answer) in PROVED.iter().chain(&FAILED) {
+        for (text, answer) in PROVED.iter().chain(&FAILED) {
             let mut shelf = MemShelf::new(alloc);
-            shelf.add("p.sf", bytes)?;
-            says(&rt, alloc, &words, &mut shelf, (answer, status_of(answer)))?;
+            shelf.add("p.sf", text.as_bytes())?;
+            says(&rt, &words, &mut shelf, (answer, status_of(answer)))?;
         }
     }
     Ok(())

@@ -7,7 +7,7 @@ use Rattle.sf_run.specs.Running.{program_in}
 use Rattle.sf_state.specs.Entering.{IsEntry, IsEntryFault}
 use Rattle.sf_state.specs.declared.fault.StartFault.TheVariants as fault
 use Rattle.sf_cli.proofs.Kept.{kept-unfinished}
-use Rattle.sf_cli.proofs.RunReplies.{entry-refused, proved-entered}
+use Rattle.sf_cli.proofs.RunReplies.{entry-refused, entry-run, proved-entered}
 use Rattle.sf_cli.specs.Answer.{IsRun, RunFileAnswer, RunFileJournal, no_entry}
 use Rattle.sf_cli.proofs.run.run_proved.Goals as goal
 
@@ -28,11 +28,8 @@ run_state_file-requires-clause-other g c = λ κs b.
 
 pub returns-in-Ok-clause-answered : goal.returns-in-Ok-clause-answered
 returns-in-Ok-clause-answered g c =
-    let run : IsRun (program_in c.args.proof.now) c.args.words.now.procedure.now c.in-Ok.f = record {
-      proved = c.requires.proved;
-      is_entry = subst (λ (a : Arranged). IsEntry (program_of a.program) c.args.words.now.procedure.now c.in-Ok.f)
-          c.arranged-arranged.ensures c.in-Ok.ensures.decides.found;
-    } in
+    let run : IsRun (program_in c.args.proof.now) c.args.words.now.procedure.now c.in-Ok.f =
+    entry-run _ _ _ _ c.arranged-arranged.ensures c.requires.proved c.in-Ok.ensures.decides.found in
     IfOk-weaker c.run_state_file.result _ _
     (λ said k less. let (given, has, a) = k less in
     proved-entered c.args.words.now.kept (g.S.Shelf.files c.args.shelf.now) (program_in c.args.proof.now)
@@ -41,21 +38,15 @@ returns-in-Ok-clause-answered g c =
 
 pub returns-in-Ok-clause-unread : goal.returns-in-Ok-clause-unread
 returns-in-Ok-clause-unread g c =
-    let run : IsRun (program_in c.args.proof.now) c.args.words.now.procedure.now c.in-Ok.f = record {
-      proved = c.requires.proved;
-      is_entry = subst (λ (a : Arranged). IsEntry (program_of a.program) c.args.words.now.procedure.now c.in-Ok.f)
-          c.arranged-arranged.ensures c.in-Ok.ensures.decides.found;
-    } in
+    let run : IsRun (program_in c.args.proof.now) c.args.words.now.procedure.now c.in-Ok.f =
+    entry-run _ _ _ _ c.arranged-arranged.ensures c.requires.proved c.in-Ok.ensures.decides.found in
     IfOk-weaker c.run_state_file.result _ _
     (λ said k seven. let u = k seven in ((c.in-Ok.f, run), u.0, u.1)) c.run_state_file.ensures.unread
 
 pub returns-in-Ok-clause-others : goal.returns-in-Ok-clause-others
 returns-in-Ok-clause-others g c = λ other h.
-    let run : IsRun (program_in c.args.proof.now) c.args.words.now.procedure.now c.in-Ok.f = record {
-      proved = c.requires.proved;
-      is_entry = subst (λ (a : Arranged). IsEntry (program_of a.program) c.args.words.now.procedure.now c.in-Ok.f)
-          c.arranged-arranged.ensures c.in-Ok.ensures.decides.found;
-    } in
+    let run : IsRun (program_in c.args.proof.now) c.args.words.now.procedure.now c.in-Ok.f =
+    entry-run _ _ _ _ c.arranged-arranged.ensures c.requires.proved c.in-Ok.ensures.decides.found in
     c.run_state_file.ensures.others other (λ e. h (e, (c.in-Ok.f, run)))
 
 pub returns-in-Err-clause-answered : goal.returns-in-Err-clause-answered

@@ -1,8 +1,8 @@
 //! The classic append with a segment up to the last cell.
 
 /// The file, and the answer to it.
-pub const FILE: (&[u8], &str) = (
-    b"/* expect: accepted */
+pub const FILE: (&str, &str) = (
+    "/* expect: accepted */
 /* The classic append with a segment up to the last cell. */
 append(x; y) [list(x) * list(y)] {
   local t, n;

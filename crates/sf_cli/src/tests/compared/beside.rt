@@ -1,8 +1,8 @@
 //! Two reversals beside each other.
 
 /// The file, and the answer to it.
-pub const FILE: (&[u8], &str) = (
-    b"/* expect: accepted */
+pub const FILE: (&str, &str) = (
+    "/* expect: accepted */
 /* Two reversals beside each other, one of them in a nested group. */
 reverse(o; i) [list(i)] {
   local t;

@@ -1,8 +1,8 @@
 //! Fails: both children want the one cell.
 
 /// The file, and the answer to it.
-pub const FILE: (&[u8], &str) = (
-    b"/* expect: failed main NoAtom */
+pub const FILE: (&str, &str) = (
+    "/* expect: failed main NoAtom */
 /* Both children want the one cell. */
 write(x) [x|->] { x->hd = 1; } [x|->]
 main(x) [x|->] { write(x) || write(x); } [x|->]

@@ -2,8 +2,8 @@
 //! back, and two that are one.
 
 /// The file, and the answer to it.
-pub const FILE: (&[u8], &str) = (
-    b"tl, l, r, pv;
+pub const FILE: (&str, &str) = (
+    "tl, l, r, pv;
 last(v; x, e) [x != nil * dll(x,nil,e,nil)] {
 } [dll(x,nil,e,nil)]
 push(x, e; ) [dll(x,nil,e,nil)] {

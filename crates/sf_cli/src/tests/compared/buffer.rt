@@ -1,8 +1,8 @@
 //! A buffer of one place that passes whole lists.
 
 /// The file, and the answer to it.
-pub const FILE: (&[u8], &str) = (
-    b"/* expect: accepted */
+pub const FILE: (&str, &str) = (
+    "/* expect: accepted */
 /* The buffer passes whole lists; nil is a list too, so a flag tells whether it is full. */
 resource buf (c, full) [if full == 1 then list(c) else emp]
 send(x) [list(x)] {

@@ -1,8 +1,8 @@
 //! A tree is copied.
 
 /// The file, and the answer to it.
-pub const FILE: (&[u8], &str) = (
-    b"/* expect: accepted */
+pub const FILE: (&str, &str) = (
+    "/* expect: accepted */
 copy(c; p) [tree(p)] {
   local i, j, a, b;
   if (p == nil) { c = nil; }

@@ -1,8 +1,8 @@
 //! Fails: a parallel disposal of a tree without that of the root.
 
 /// The file, and the answer to it.
-pub const FILE: (&[u8], &str) = (
-    b"/* expect: failed disp_tree Leak */
+pub const FILE: (&str, &str) = (
+    "/* expect: failed disp_tree Leak */
 /* The parallel tree disposal without the dispose of the root. */
 disp_tree(p) [tree(p)] {
   local i, j;

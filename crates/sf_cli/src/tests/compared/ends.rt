@@ -1,8 +1,8 @@
 //! One cell more at the end of a list, linked one way or both; the first one given up.
 
 /// The file, and the answer to it.
-pub const FILE: (&[u8], &str) = (
-    b"tl, l, r, pv;
+pub const FILE: (&str, &str) = (
+    "tl, l, r, pv;
 mid(; x, y, z) [ls(x,y) * y|->tl:z * ls(z,nil)] {
 } [ls(x,nil)]
 dmid(; x, p, m, y, e) [dll(x,p,m,y) * y|->tl:nil,pv:m * e == y] {

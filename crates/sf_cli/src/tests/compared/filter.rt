@@ -1,8 +1,8 @@
 //! Fails: the previous cell may be the one that was just disposed.
 
 /// The file, and the answer to it.
-pub const FILE: (&[u8], &str) = (
-    b"/* expect: failed filter NoCell */
+pub const FILE: (&str, &str) = (
+    "/* expect: failed filter NoCell */
 /* The classic slip: the previous cell may be the one that was just disposed. */
 filter(x; k) [x != nil * list(x)] {
   local p, c, v;

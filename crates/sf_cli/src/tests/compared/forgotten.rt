@@ -1,8 +1,8 @@
 //! Fails: an invariant forgets the part that is reversed already.
 
 /// The file, and the answer to it.
-pub const FILE: (&[u8], &str) = (
-    b"/* expect: failed reverse Leak */
+pub const FILE: (&str, &str) = (
+    "/* expect: failed reverse Leak */
 /* The invariant forgets the part that is reversed already, so it can't be given at the end. */
 reverse(o; i) [list(i)] {
   local t;

@@ -1,8 +1,8 @@
 //! Fails: a link is read from a cell that is gone.
 
 /// The file, and the answer to it.
-pub const FILE: (&[u8], &str) = (
-    b"/* expect: failed dispose_loop NoCell */
+pub const FILE: (&str, &str) = (
+    "/* expect: failed dispose_loop NoCell */
 /* The link is read from a cell that is gone. */
 dispose_loop(x) [list(x)] {
   local t;

@@ -1,8 +1,8 @@
 //! Fails: a region is left with its free list gone.
 
 /// The file, and the answer to it.
-pub const FILE: (&[u8], &str) = (
-    b"/* expect: failed grab NoAtom */
+pub const FILE: (&str, &str) = (
+    "/* expect: failed grab NoAtom */
 /* The region is left with its free list gone. */
 resource mm (f) [list(f)]
 grab(x;) [emp] {

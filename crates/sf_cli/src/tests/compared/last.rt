@@ -1,8 +1,8 @@
 //! The last cell of a list that isn't empty.
 
 /// The file, and the answer to it.
-pub const FILE: (&[u8], &str) = (
-    b"/* expect: accepted */
+pub const FILE: (&str, &str) = (
+    "/* expect: accepted */
 /* The last cell of a list that isn't empty; a cell put before the end of a segment. */
 last(y; x) [x != nil * list(x)] {
   local n;

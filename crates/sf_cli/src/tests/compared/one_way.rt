@@ -1,8 +1,8 @@
 //! A list that is linked both ways, and is to be one that is linked one way.
 
 /// The file, and the answer to it.
-pub const FILE: (&[u8], &str) = (
-    b"tl, pv;
+pub const FILE: (&str, &str) = (
+    "tl, pv;
 as_list(; x, l) [dll(x,nil,l,nil)] {
   local t, p;
   t = x;

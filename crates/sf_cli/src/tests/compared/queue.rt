@@ -1,8 +1,8 @@
 //! A queue from its front up to a dummy cell.
 
 /// The file, and the answer to it.
-pub const FILE: (&[u8], &str) = (
-    b"/* expect: accepted */
+pub const FILE: (&str, &str) = (
+    "/* expect: accepted */
 /* A queue from front f up to a dummy cell r. */
 make(f, r;) [emp] {
   r = new();

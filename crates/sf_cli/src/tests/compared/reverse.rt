@@ -1,8 +1,7 @@
 //! In-place reversal of a list.
 
-/// The file, and the answer to it.
-pub const FILE: (&[u8], &str) = (
-    b"/* expect: accepted */
+/// The text of the file.
+pub const TEXT: &str = "/* expect: accepted */
 /* In-place reversal of a list; the value parameter is assigned, so the body works on a fresh local. */
 reverse(o; i) [list(i)] {
   local t;
@@ -14,9 +13,13 @@ reverse(o; i) [list(i)] {
     i = t;
   }
 } [list(o)]
-",
-    "accepted; procedure reverse
+";
+
+/// Its proof.
+pub const PROOF: &str = "accepted; procedure reverse
 add; assign; assign; loop; empty; exact 1; around; add; add; add; unroll 3; look 4; mutate 4
 assign; assign; again; head 4; exact 2; exact 5; end; add; add; add; drop 3; return; exact 2; end
-",
-);
+";
+
+/// The file, and the answer to it.
+pub const FILE: (&str, &str) = (TEXT, PROOF);

@@ -1,8 +1,8 @@
 //! A ring: one cell in hand and a segment back to it.
 
 /// The file, and the answer to it.
-pub const FILE: (&[u8], &str) = (
-    b"/* expect: accepted */
+pub const FILE: (&str, &str) = (
+    "/* expect: accepted */
 /* A ring: one cell in hand and a segment back to it. */
 ring(x;) [emp] {
   x = new();

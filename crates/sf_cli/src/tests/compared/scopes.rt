@@ -1,8 +1,8 @@
 //! Existentials whose scopes are branches, and one whose scope is the whole assertion.
 
 /// The file, and the answer to it.
-pub const FILE: (&[u8], &str) = (
-    b"/* expect: accepted */
+pub const FILE: (&str, &str) = (
+    "/* expect: accepted */
 /* Existentials whose scopes are branches, and one whose scope is the whole assertion. */
 pick(x, y, b) [if b == 0 then x|->tl:_n * _n|-> else y|->tl:_n * list(_n)] {
   if (b == 0) { free2(x); }

@@ -1,8 +1,8 @@
 //! Two lists are swapped by reference, and the contents of two cells.
 
 /// The file, and the answer to it.
-pub const FILE: (&[u8], &str) = (
-    b"/* expect: accepted */
+pub const FILE: (&str, &str) = (
+    "/* expect: accepted */
 /* Swaps two lists by reference, and the contents of two cells. */
 swap(x, y;) [list(x) * list(y)] {
   local t;

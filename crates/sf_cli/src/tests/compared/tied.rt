@@ -1,8 +1,8 @@
 //! Fails: an append that ties the last cell to the first one.
 
 /// The file, and the answer to it.
-pub const FILE: (&[u8], &str) = (
-    b"/* expect: failed append NoAtom */
+pub const FILE: (&str, &str) = (
+    "/* expect: failed append NoAtom */
 /* The last cell is tied to the first one instead of to the second list. */
 append(x; y) [x != nil * list(x) * list(y)] {
   local t, n;

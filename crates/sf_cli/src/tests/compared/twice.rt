@@ -1,8 +1,8 @@
 //! Fails: a cell is disposed twice.
 
 /// The file, and the answer to it.
-pub const FILE: (&[u8], &str) = (
-    b"/* expect: failed twice NoCell */
+pub const FILE: (&str, &str) = (
+    "/* expect: failed twice NoCell */
 twice(x) [x|->] {
   dispose(x);
   dispose(x);

@@ -1,8 +1,8 @@
 //! Fails: that a segment's ends differ doesn't give it a cell.
 
 /// The file, and the answer to it.
-pub const FILE: (&[u8], &str) = (
-    b"/* expect: failed walk_all Leak */
+pub const FILE: (&str, &str) = (
+    "/* expect: failed walk_all Leak */
 /* The walk is right; but that a segment's ends differ doesn't give it a cell. */
 /* The textbook walk over a list. */
 walk_all(x) [list(x)] {

@@ -1,10 +1,13 @@
 //! A buffer for one cell, between two threads.
 
-/// The file.
-pub const FILE: &str = "resource buf (c, full) [if full == 0 then emp else c|->]
+/// The file up to the end of what `put` does.
+pub const PUT: &str = "resource buf (c, full) [if full == 0 then emp else c|->]
 put(x) [x|->] {
   with buf when (full == 0) { c = x; full = 1; }
-} [emp]
+";
+
+/// The rest of the file.
+pub const GET: &str = "} [emp]
 get(y;) [emp] {
   with buf when (full != 0) { y = c; full = 0; }
 } [y|->]
@@ -27,19 +30,5 @@ procedure main
 new; fork; cell 1; give; add; dispose 2; return; end
 ";
 
-/// As that file, with two threads that each take a cell out.
-pub const PAIR: &str = "resource buf (c, full) [if full == 0 then emp else c|->]
-put(x) [x|->] {
-  with buf when (full == 0) { c = x; full = 1; }
-} [emp]
-get(y;) [emp] {
-  with buf when (full != 0) { y = c; full = 0; }
-} [y|->]
-main() {
-  local x, y;
-  x = new();
-  put(x) || get(y;);
-  dispose(y);
-}
-pair(y, z;) [emp] { get(y;) || get(z;); } [y|-> * z|->]
-";
+/// What comes behind the file: two threads that each take a cell out.
+pub const PAIR: &str = "pair(y, z;) [emp] { get(y;) || get(z;); } [y|-> * z|->]\n";

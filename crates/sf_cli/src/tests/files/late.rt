@@ -1,21 +1,7 @@
 //! As `buffer`, but the cell is also given up by the one who has put it.
 
-/// The file.
-pub const FILE: &str = "resource buf (c, full) [if full == 0 then emp else c|->]
-put(x) [x|->] {
-  with buf when (full == 0) { c = x; full = 1; }
-  dispose(x);
-} [emp]
-get(y;) [emp] {
-  with buf when (full != 0) { y = c; full = 0; }
-} [y|->]
-main() {
-  local x, y;
-  x = new();
-  put(x) || get(y;);
-  dispose(y);
-}
-";
+/// What stands between the two parts of that file: the end of what `put` does.
+pub const DISPOSAL: &str = "  dispose(x);\n";
 
 /// Why it has no proof.
 pub const FAILURE: &str = "failed put at 4:3 NoCell

@@ -1,19 +1,9 @@
-//! A memory manager whose list is set up first: empty, or by a value that is no list.
+//! As `mm`, but the list is set up first: empty, or by a value that is no list.
 
-/// The file.
-pub const FILE: &str = "resource mm (f) [list(f)]
-alloc(x;) [emp] {
-  with mm when (true) {
-    if (f == nil) { x = new(); } else { x = f; f = x->tl; }
-  }
-} [x|->]
-dealloc(y) [y|->] {
-  with mm when (true) { y->tl = f; f = y; }
-} [emp]
-init() { f = nil; }
-";
+/// What comes behind the file of `mm`.
+pub const INIT: &str = "init() { f = nil; }\n";
 
-/// Its proof.
+/// The proof of both.
 pub const PROOF: &str = "accepted; procedure alloc
 enter; add; split s1 nil; drop 1; then; new; exit; empty; give; return; cell 2; end; else; assign
 unroll 1; look 2; exit; exact 3; give; return; cell 2; end
@@ -23,18 +13,8 @@ procedure init
 assign; return; empty; end
 ";
 
-/// The file in which what is set up is no list.
-pub const WRONG: &str = "resource mm (f) [list(f)]
-alloc(x;) [emp] {
-  with mm when (true) {
-    if (f == nil) { x = new(); } else { x = f; f = x->tl; }
-  }
-} [x|->]
-dealloc(y) [y|->] {
-  with mm when (true) { y->tl = f; f = y; }
-} [emp]
-init() { f = 3; }
-";
+/// What comes there, where what is set up is no list.
+pub const WRONG_INIT: &str = "init() { f = 3; }\n";
 
 /// Why that has no proof.
 pub const FAILURE: &str = "failed init at 10:17 NoAtom

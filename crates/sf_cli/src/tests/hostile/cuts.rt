@@ -1,27 +1,25 @@
 //! Texts of proofs that are cut off after each byte and each line, or lack a line: each is refused,
 //! where it was worked out by hand.
 
-use super::super::files::{buffer, link_first, mi, mm, reverse, set, stay, tree, vacuous};
-use super::super::{says, text_of};
+use super::super::compared::reverse;
+use super::super::files::{FILES, buffer, link_first, mi, mm, set, stay, tree, vacuous};
+use super::super::{Host, joined, says, text_of};
 use crate::top::smallfoot;
 use sf_io::{MemShelf, MemSink, OpenGate};
 use std::alloc::Global;
-use std::process::Abort;
-use std::sync::Wait;
 use std::test::Fail;
-use std::thread::Threads;
 
-/// Files with their proofs.
+/// Names of files, with their proofs.
 const PROVED: [(&str, &str); 9] = [
-    (set::FILE, set::PROOF),
-    (tree::FILE, tree::PROOF),
-    (mm::FILE, mm::PROOF),
-    (mi::FILE, mi::PROOF),
-    (buffer::FILE, buffer::PROOF),
-    (reverse::FILE, reverse::PROOF),
-    (link_first::FILE, link_first::PROOF),
-    (stay::FILE, stay::PROOF),
-    (vacuous::FILE, vacuous::PROOF),
+    ("set.sf", set::PROOF),
+    ("tree.sf", tree::PROOF),
+    ("mm.sf", mm::PROOF),
+    ("mi.sf", mi::PROOF),
+    ("buf.sf", buffer::PROOF),
+    ("rev.sf", reverse::PROOF),
+    ("k.sf", link_first::PROOF),
+    ("stay.sf", stay::PROOF),
+    ("vac.sf", vacuous::PROOF),
 ];
 
 /// A line of the proof of tree.sf that is left out, counted from 1, and the line and the kind at
@@ -48,25 +46,25 @@ const LEFT_OUT: [(usize, u32, u32); 19] = [
     (19, 19, 61),
 ];
 
-/// The shelf with that file and that text of a proof.
+/// The shelf with that file of `files` alone, and that text of a proof.
 fn shelf_of(alloc: Global, file: &str, proof: &[u8]) -> Result<MemShelf, Fail> {
     let mut shelf = MemShelf::new(alloc);
-    shelf.add("p.sf", file.as_bytes())?;
+    for (name, parts) in FILES {
+        if name == file {
+            shelf.add(name, joined(alloc, parts)?.as_bytes())?;
+        }
+    }
     shelf.add("p.proof", proof)?;
     Ok(shelf)
 }
 
 /// The text of a proof of tree.sf is refused at that line, for that kind.
-fn is_refused_at<R: Threads + Wait + Sync + Abort>(
-    rt: &R,
-    alloc: Global,
-    proof: &str,
-    (line, kind): (u32, u32),
-) -> Result<(), Fail> {
-    let mut shelf = shelf_of(alloc, tree::FILE, proof.as_bytes())?;
-    let words = ["recheck", "p.sf", "p.proof"];
+fn is_refused_at(rt: &impl Host, proof: &str, (line, kind): (u32, u32)) -> Result<(), Fail> {
+    let alloc = rt.alloc();
+    let mut shelf = shelf_of(alloc, "tree.sf", proof.as_bytes())?;
+    let words = ["recheck", "tree.sf", "p.proof"];
     let answer = format!(in alloc; "proof refused: line {line} kind {kind}\n")?;
-    says(rt, alloc, &words, &mut shelf, (answer.as_str(), 4))
+    says(rt, &words, &mut shelf, (answer.as_str(), 4))
 }
 
 #[test]
@@ -78,7 +76,7 @@ fn a_proof_without_its_last_lines_has_goals_left(rt: HostRuntime) -> Result<(), 
         kept.push_str(line)?;
         kept.push_str("\n")?;
         if next < 20 {
-            is_refused_at(&rt, alloc, kept.as_str(), (next, 61))?;
+            is_refused_at(&rt, kept.as_str(), (next, 61))?;
         }
     }
     assert_eq!(rt; kept.as_str(), proof.as_str());
@@ -103,7 +101,7 @@ fn a_proof_without_one_line_is_refused(rt: HostRuntime) -> Result<(), Fail> {
     let proof = text_of(alloc, tree::PROOF)?;
     for (left_out, line, kind) in LEFT_OUT {
         let kept = without_line(alloc, proof.as_str(), left_out)?;
-        is_refused_at(&rt, alloc, kept.as_str(), (line, kind))?;
+        is_refused_at(&rt, kept.as_str(), (line, kind))?;
     }
     Ok(())
 }
@@ -121,15 +119,11 @@ fn is_refusal_of_cut(alloc: Global, answer: &str, line: usize) -> Result<bool, F
 }
 
 /// The text of a proof that is cut off after so many bytes is refused where it was cut.
-fn is_refused_cut<R: Threads + Wait + Sync + Abort>(
-    rt: &R,
-    alloc: Global,
-    file: &str,
-    proof: &[u8],
-) -> Result<(), Fail> {
+fn is_refused_cut(rt: &impl Host, file: &str, proof: &[u8]) -> Result<(), Fail> {
+    let alloc = rt.alloc();
     let mut shelf = shelf_of(alloc, file, proof)?;
     let mut sink = MemSink::new(alloc, usize::MAX);
-    let words = ["recheck", "p.sf", "p.proof"];
+    let words = ["recheck", file, "p.proof"];
     let status = smallfoot(rt, alloc, &words, &mut shelf, &mut sink, &OpenGate);
     let answer = String::from_utf8_lossy(alloc, sink.bytes())?;
     let whole_lines = proof.iter().filter(|byte| **byte == b'\n').count();
@@ -147,21 +141,17 @@ fn is_refused_cut<R: Threads + Wait + Sync + Abort>(
 }
 
 /// So it is after each number of bytes but all of them; without its last line feed it is whole.
-fn is_refused_cut_anywhere<R: Threads + Wait + Sync + Abort>(
-    rt: &R,
-    alloc: Global,
-    file: &str,
-    proof: &[u8],
-) -> Result<(), Fail> {
+fn is_refused_cut_anywhere(rt: &impl Host, file: &str, proof: &[u8]) -> Result<(), Fail> {
+    let alloc = rt.alloc();
     let Some((_, whole)) = proof.split_last() else {
         return Ok(());
     };
     for end in 0..whole.len() {
-        is_refused_cut(rt, alloc, file, &whole[..end])?;
+        is_refused_cut(rt, file, &whole[..end])?;
     }
     let mut shelf = shelf_of(alloc, file, whole)?;
-    let words = ["recheck", "p.sf", "p.proof"];
-    says(rt, alloc, &words, &mut shelf, ("accepted\n", 0))
+    let words = ["recheck", file, "p.proof"];
+    says(rt, &words, &mut shelf, ("accepted\n", 0))
 }
 
 #[test]
@@ -169,7 +159,7 @@ fn a_proof_that_is_cut_off_anywhere_is_refused(rt: HostRuntime) -> Result<(), Fa
     let alloc = rt.alloc();
     for (file, proof) in PROVED {
         let text = text_of(alloc, proof)?;
-        is_refused_cut_anywhere(&rt, alloc, file, text.as_bytes())?;
+        is_refused_cut_anywhere(&rt, file, text.as_bytes())?;
     }
     Ok(())
 }

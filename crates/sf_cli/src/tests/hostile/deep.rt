@@ -7,47 +7,26 @@ use sf_io::{MemShelf, MemSink, OpenGate};
 use std::test::Fail;
 
 /// Runs with the largest numbers.
-const LARGEST: [(&[&str], &str, &str, u8); 3] = [
+const LARGEST: [(&str, &str, &str, u8); 3] = [
     (
-        &[
-            "run",
-            "two.sf",
-            "two",
-            "given",
-            "--steps",
-            "281474976710656",
-        ],
+        "run two.sf two given --steps 281474976710656",
         "x = nil\n",
         "finished\nx = 1\n",
         0,
     ),
     (
-        &["run", "two.sf", "two", "given", "--waits", "16777216"],
+        "run two.sf two given --waits 16777216",
         "x = nil\n",
         "finished\nx = 1\n",
         0,
     ),
     (
-        &[
-            "run",
-            "tree.sf",
-            "disp_tree",
-            "given",
-            "--steps",
-            "281474976710656",
-            "--waits",
-            "16777216",
-        ],
+        "run tree.sf disp_tree given --steps 281474976710656 --waits 16777216",
         "p = @1\n@1 l=@2 r=@3\n@2\n@3\n",
         "finished\np = @1\n",
         0,
     ),
 ];
-
-#[test]
-fn runs_may_have_the_largest_numbers(rt: HostRuntime) -> Result<(), Fail> {
-    are_said(&rt, rt.alloc(), &LARGEST)
-}
 
 /// Procedures that call themselves beside one that does nothing.
 const CALLS_ITSELF: &str = "skip() { }
@@ -58,6 +37,11 @@ right() { skip() || right(); }";
 /// and of the others the left child gets half: 2^47 - 1, and so on until the 48th has none. The right
 /// child gets 2^47, and so on until the 47th has two, one for its fork and one for its right child.
 const HALVED: [(&str, &str, usize, &str); 2] = [("left", ".1", 48, ""), ("right", ".2", 47, ".1")];
+
+#[test]
+fn runs_may_have_the_largest_numbers(rt: HostRuntime) -> Result<(), Fail> {
+    are_said(&rt, &LARGEST)
+}
 
 #[test]
 fn forks_halve_the_largest_supply_down_to_nothing(rt: HostRuntime) -> Result<(), Fail> {

@@ -2,137 +2,127 @@
 //! bytes. What is said where nothing fails was worked out by hand.
 
 use super::super::files::{leak, set, tree};
-use super::super::{says, shelf_with, text_of};
+use super::super::{Host, says, shelf_with, text_of, words_of};
 use crate::top::smallfoot;
 use crate::usage::USAGE;
 use sf_io::{MemSink, OpenGate};
-use std::alloc::Global;
-use std::process::Abort;
-use std::sync::Wait;
 use std::test::Fail;
-use std::thread::Threads;
 
-/// Words, the text under the name `given`, what is said and its status, and the files that are
+/// A line of words, the text under the name `given`, what is said and its status, and the files that are
 /// fetched, in order: one row at least for each command, and for each status but 8 and 9.
-const CASES: [(&[&str], &str, &str, u8, &[&str]); 23] = [
-    (&["verify", "tree.sf"], "", tree::PROOF, 0, &["tree.sf"]),
+const CASES: [(&str, &str, &str, u8, &[&str]); 23] = [
+    ("verify tree.sf", "", tree::PROOF, 0, &["tree.sf"]),
+    ("verify set.sf --workers 4", "", set::PROOF, 0, &["set.sf"]),
+    ("verify leak.sf", "", leak::FAILURE, 1, &["leak.sf"]),
     (
-        &["verify", "set.sf", "--workers", "4"],
-        "",
-        set::PROOF,
-        0,
-        &["set.sf"],
-    ),
-    (&["verify", "leak.sf"], "", leak::FAILURE, 1, &["leak.sf"]),
-    (
-        &["verify", "bad.sf"],
+        "verify bad.sf",
         "",
         "file refused: 1 BadByte at 1:7\n",
         3,
         &["bad.sf"],
     ),
     (
-        &["verify", "none.sf"],
+        "verify none.sf",
         "",
         "read fault: none.sf\n",
         7,
         &["none.sf"],
     ),
     (
-        &["recheck", "tree.sf", "given"],
+        "recheck tree.sf given",
         tree::PROOF,
         "accepted\n",
         0,
         &["tree.sf", "given"],
     ),
     (
-        &["recheck", "tree.sf", "given"],
+        "recheck tree.sf given",
         "accepted\n",
         "proof refused: line 2 kind 61\n",
         4,
         &["tree.sf", "given"],
     ),
     (
-        &["recheck", "bad.sf", "given"],
+        "recheck bad.sf given",
         "accepted\n",
         "file refused: 1 BadByte at 1:7\n",
         3,
         &["bad.sf"],
     ),
     (
-        &["run", "tree.sf", "disp_tree", "given"],
+        "run tree.sf disp_tree given",
         "p = @1\n@1 l=@2 r=@3\n@2\n@3\n",
         "finished\np = @1\n",
         0,
         &["tree.sf", "given"],
     ),
     (
-        &["run", "two.sf", "none", "given"],
+        "run two.sf none given",
         "",
         "start refused: 73 Unknown none\n",
         5,
         &["two.sf"],
     ),
     (
-        &["run", "two.sf", "two", "given"],
+        "run two.sf two given",
         "x = nil\n@7\n",
         "start refused: 75 LeftOver @7\n",
         5,
         &["two.sf", "given"],
     ),
     (
-        &["run", "two.sf", "two", "given", "--steps", "1"],
+        "run two.sf two given --steps 1",
         "x = nil\n",
         "spent steps: task 0 used 1\n",
         6,
         &["two.sf", "given"],
     ),
     (
-        &["run", "pair.sf", "pair", "given", "--waits", "3"],
+        "run pair.sf pair given --waits 3",
         "y = nil\nz = nil\nbuf.c = nil\nbuf.full = 0\n",
         "spent waits: task 0.1 resource buf tries 3\n",
         6,
         &["pair.sf", "given"],
     ),
     (
-        &["journal", "mm.sf", "alloc", "given"],
+        "journal mm.sf alloc given",
         "x = nil\nmm.f = nil\n",
         "finished\nx = @3\nmm.f = nil\n@3 hd=nil tl=nil l=nil r=nil\nschedule\n0 1\n0 2\n0 3\n0 4\n",
         0,
         &["mm.sf", "given"],
     ),
     (
-        &["journal", "stay.sf", "stay", "given", "--waits", "2"],
+        "journal stay.sf stay given --waits 2",
         "r.v = nil\n",
         "spent waits: task 0 resource r tries 2\n",
         6,
         &["stay.sf", "given"],
     ),
     (
-        &["replay", "fork.sf", "g", "given", "given"],
+        "replay fork.sf g given given",
         "",
         "no such step\n",
         0,
         &["fork.sf", "given", "given"],
     ),
     (
-        &["replay", "two.sf", "two", "given", "given"],
+        "replay two.sf two given given",
         "x = nil\n",
         "schedule refused: 80 BadLine line 1\n",
         11,
         &["two.sf", "given", "given"],
     ),
-    (&["witness", "set.sf"], "", "accepted\n", 0, &["set.sf"]),
+    ("witness set.sf", "", "accepted\n", 0, &["set.sf"]),
     (
-        &["witness", "leak.sf"],
+        "witness leak.sf",
         "",
         "witness disp_tree at 8:1 Leak\np = @1\ni = @2\nj = @3\n@1 hd=nil tl=nil l=@2 r=@3\nwant fails\n",
         1,
         &["leak.sf"],
     ),
-    (&["order", "mm.sf"], "", "order\n0 mm\n", 0, &["mm.sf"]),
+    ("order mm.sf", "", "order\n0 mm\n", 0, &["mm.sf"]),
     (
-        &["order", "given"],
+        "order given",
         "resource a (v) []
 resource b (w) []
 f() { with a when (true) { with b when (true) { } } }
@@ -142,30 +132,31 @@ g() { with b when (true) { with a when (true) { } } }",
         &["given"],
     ),
     (
-        &["demo", "2"],
+        "demo 2",
         "",
         "demo 2: 2 procedures, 198 bytes, 28 tags\n",
         0,
         &[],
     ),
-    (&[], "", USAGE, 2, &[]),
+    ("", "", USAGE, 2, &[]),
 ];
 
 /// Into a sink that takes so many bytes at a call, and fails at that call, come the first `kept`
 /// bytes of the answer with status 8, where it has more, and else all of it with its status.
-fn is_kept<R: Threads + Wait + Sync + Abort>(
-    rt: &R,
-    alloc: Global,
-    case: (&[&str], &str, &str, u8),
+fn is_kept(
+    rt: &impl Host,
+    case: (&str, &str, &str, u8),
     sink: (usize, u64),
     kept: usize,
 ) -> Result<(), Fail> {
-    let (words, given, answer, status) = case;
+    let alloc = rt.alloc();
+    let (line, given, answer, status) = case;
     let (most, failing) = sink;
+    let words = words_of(alloc, line)?;
     let mut shelf = shelf_with(alloc, given)?;
     let mut sink = MemSink::new(alloc, most);
     sink.fail_at(failing)?;
-    let ended = smallfoot(rt, alloc, words, &mut shelf, &mut sink, &OpenGate);
+    let ended = smallfoot(rt, alloc, &words, &mut shelf, &mut sink, &OpenGate);
     let text = text_of(alloc, answer)?;
     let wanted = if kept < text.len() { 8 } else { status };
     assert_eq!(rt; ended, wanted, "after {kept} bytes");
@@ -176,24 +167,19 @@ fn is_kept<R: Threads + Wait + Sync + Abort>(
 
 /// So it is whatever the number of bytes after which the sink fails: at its second call, where it
 /// takes all of them at once, and at a later one, where it takes one at a call.
-fn is_cut_anywhere<R: Threads + Wait + Sync + Abort>(
-    rt: &R,
-    alloc: Global,
-    case: (&[&str], &str, &str, u8),
-) -> Result<(), Fail> {
-    let text = text_of(alloc, case.2)?;
+fn is_cut_anywhere(rt: &impl Host, case: (&str, &str, &str, u8)) -> Result<(), Fail> {
+    let text = text_of(rt.alloc(), case.2)?;
     for (call, kept) in (1..).zip(0..=text.len()) {
-        is_kept(rt, alloc, case, (kept, 2), kept)?;
-        is_kept(rt, alloc, case, (1, call), kept)?;
+        is_kept(rt, case, (kept, 2), kept)?;
+        is_kept(rt, case, (1, call), kept)?;
     }
     Ok(())
 }
 
 #[test]
 fn what_a_sink_has_taken_is_a_prefix_of_the_answer(rt: HostRuntime) -> Result<(), Fail> {
-    let alloc = rt.alloc();
-    for (words, given, answer, status, _) in CASES {
-        is_cut_anywhere(&rt, alloc, (words, given, answer, status))?;
+    for (line, given, answer, status, _) in CASES {
+        is_cut_anywhere(&rt, (line, given, answer, status))?;
     }
     Ok(())
 }
@@ -214,28 +200,26 @@ const SIXTEENS: [(u64, usize); 10] = [
 
 #[test]
 fn a_sink_of_sixteen_bytes_at_a_call_may_fail_at_each(rt: HostRuntime) -> Result<(), Fail> {
-    let alloc = rt.alloc();
-    let words = ["verify", "tree.sf"];
-    let case = (words.as_slice(), "", tree::PROOF, 0);
-    assert_eq!(rt; text_of(alloc, tree::PROOF)?.len(), 144);
+    let case = ("verify tree.sf", "", tree::PROOF, 0);
+    assert_eq!(rt; text_of(rt.alloc(), tree::PROOF)?.len(), 144);
     for (call, kept) in SIXTEENS {
-        is_kept(&rt, alloc, case, (16, call), kept)?;
+        is_kept(&rt, case, (16, call), kept)?;
     }
     Ok(())
 }
 
 /// Where that fetch fails, that file can't be read; where nothing can be written either, nothing is
 /// said.
-fn is_unread<R: Threads + Wait + Sync + Abort>(
-    rt: &R,
-    alloc: Global,
+fn is_unread(
+    rt: &impl Host,
     (words, given): (&[&str], &str),
     (fetch, name): (u64, &str),
 ) -> Result<(), Fail> {
+    let alloc = rt.alloc();
     let mut shelf = shelf_with(alloc, given)?;
     shelf.fail_at(fetch)?;
     let line = format!(in alloc; "read fault: {name}\n")?;
-    says(rt, alloc, words, &mut shelf, (line.as_str(), 7))?;
+    says(rt, words, &mut shelf, (line.as_str(), 7))?;
     let mut shelf = shelf_with(alloc, given)?;
     shelf.fail_at(fetch)?;
     let mut sink = MemSink::new(alloc, usize::MAX);
@@ -248,26 +232,26 @@ fn is_unread<R: Threads + Wait + Sync + Abort>(
 
 /// The files can each fail to be read, and are all that is fetched: where a later fetch is to fail,
 /// the answer is as ever.
-fn is_unread_anywhere<R: Threads + Wait + Sync + Abort>(
-    rt: &R,
-    alloc: Global,
-    case: (&[&str], &str, &str, u8),
+fn is_unread_anywhere(
+    rt: &impl Host,
+    case: (&str, &str, &str, u8),
     fetched: &[&str],
 ) -> Result<(), Fail> {
-    let (words, given, answer, status) = case;
+    let alloc = rt.alloc();
+    let (line, given, answer, status) = case;
+    let words = words_of(alloc, line)?;
     for (fetch, name) in (1..).zip(fetched) {
-        is_unread(rt, alloc, (words, given), (fetch, name))?;
+        is_unread(rt, (&words, given), (fetch, name))?;
     }
     let mut shelf = shelf_with(alloc, given)?;
     shelf.fail_at(fetched.len() as u64 + 1)?;
-    says(rt, alloc, words, &mut shelf, (answer, status))
+    says(rt, &words, &mut shelf, (answer, status))
 }
 
 #[test]
 fn each_fetch_may_fail(rt: HostRuntime) -> Result<(), Fail> {
-    let alloc = rt.alloc();
-    for (words, given, answer, status, fetched) in CASES {
-        is_unread_anywhere(&rt, alloc, (words, given, answer, status), fetched)?;
+    for (line, given, answer, status, fetched) in CASES {
+        is_unread_anywhere(&rt, (line, given, answer, status), fetched)?;
     }
     Ok(())
 }

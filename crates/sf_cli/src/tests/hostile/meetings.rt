@@ -2,16 +2,14 @@
 //! gate. Which answers may come of some order of the steps is worked out by hand.
 
 use super::super::files::{buffer, forking, late, mm, stay, tree};
-use super::super::{says, says_at, shelf_with};
+use super::super::tables::STACK;
+use super::super::{Host, joined, says, says_at, shelf_with};
 use super::gates::{HostileGate, MANNERS, Manner};
 use crate::top::smallfoot;
 use sf_base::{ResId, TaskPath, Turn};
 use sf_io::{MemShelf, MemSink, Point, TurnGate};
 use std::alloc::Global;
-use std::process::Abort;
-use std::sync::Wait;
 use std::test::Fail;
-use std::thread::Threads;
 
 /// How many turns a gate has: so many that others get far meanwhile, and so few that a busy machine
 /// comes to their end.
@@ -20,8 +18,8 @@ const TURNS: u64 = 2_000;
 /// A run whose tasks meet.
 #[derive(Clone, Copy, Debug)]
 struct Meeting<'a> {
-    /// The program's text.
-    file: &'a str,
+    /// The parts of the program's text.
+    file: &'a [&'a str],
     /// The procedure with which it starts.
     entry: &'a str,
     /// The text of its start.
@@ -34,7 +32,7 @@ struct Meeting<'a> {
 
 /// A cell is handed over through a buffer.
 const HANDED_OVER: Meeting<'static> = Meeting {
-    file: buffer::FILE,
+    file: &[buffer::PUT, buffer::GET],
     entry: "main",
     state: "buf.c = nil\nbuf.full = 0\n",
     ends: &["finished\nbuf.c = @1\nbuf.full = 0\n"],
@@ -43,11 +41,13 @@ const HANDED_OVER: Meeting<'static> = Meeting {
 
 /// Two tasks that enter the same two regions, in opposite order.
 const OPPOSITE: Meeting<'static> = Meeting {
-    file: "resource orders (last) [emp]
+    file: &[
+        "resource orders (last) [emp]
 resource stock (pieces) [emp]
 sell() { with orders when (true) { with stock when (true) { pieces = last; } } }
 count() { with stock when (true) { with orders when (true) { last = pieces; } } }
 main() { sell() || count(); }",
+    ],
     entry: "main",
     state: "orders.last = nil\nstock.pieces = 7\n",
     ends: &[
@@ -64,10 +64,12 @@ main() { sell() || count(); }",
 
 /// Four tasks that each write the same variable.
 const FOUR_WRITERS: Meeting<'static> = Meeting {
-    file: "resource r (v) []
+    file: &[
+        "resource r (v) []
 set(x) { with r when (true) { v = x; } }
 two(x, y) { set(x) || set(y); }
 main() { two(1, 2) || two(3, 4); }",
+    ],
     entry: "main",
     state: "r.v = nil\n",
     ends: &[
@@ -86,21 +88,8 @@ main() { two(1, 2) || two(3, 4); }",
 
 /// One task that puts a cell onto a stack, and one that takes it from there.
 const STACKED: Meeting<'static> = Meeting {
-    file: "resource stack (top) [list(top)]
-push(value) {
-  local cell;
-  cell = new();
-  cell->hd = value;
-  with stack when (true) { cell->tl = top; top = cell; }
-}
-pop(value;) {
-  local cell;
-  with stack when (top != nil) { cell = top; top = cell->tl; }
-  value = cell->hd;
-  dispose(cell);
-}
-both(value;) { push(1) || pop(value;); }",
-    entry: "both",
+    file: &[STACK],
+    entry: "main",
     state: "value = nil\nstack.top = nil\n",
     ends: &["finished\nvalue = 1\nstack.top = nil\n"],
     spent: &[("0.1", "stack"), ("0.2", "stack")],
@@ -108,7 +97,7 @@ both(value;) { push(1) || pop(value;); }",
 
 /// Two tasks that wait for what nobody puts there: the left one's stop is answered.
 const NEVER_FILLED: Meeting<'static> = Meeting {
-    file: buffer::PAIR,
+    file: &[buffer::PUT, buffer::GET, buffer::PAIR],
     entry: "pair",
     state: "y = nil\nz = nil\nbuf.c = nil\nbuf.full = 0\n",
     ends: &[],
@@ -117,7 +106,7 @@ const NEVER_FILLED: Meeting<'static> = Meeting {
 
 /// One task that waits for what is never true.
 const NEVER_TRUE: Meeting<'static> = Meeting {
-    file: stay::FILE,
+    file: &[stay::FILE],
     entry: "stay",
     state: "r.v = nil\n",
     ends: &[],
@@ -126,7 +115,7 @@ const NEVER_TRUE: Meeting<'static> = Meeting {
 
 /// Tasks that meet nowhere.
 const SUBTREES: Meeting<'static> = Meeting {
-    file: tree::FILE,
+    file: &[tree::FILE],
     entry: "disp_tree",
     state: "p = @1\n@1 l=@2 r=@3\n@2 l=@4 r=@5\n@3 l=@6 r=@7\n@4\n@5\n@6\n@7\n",
     ends: &["finished\np = @1\n"],
@@ -135,7 +124,7 @@ const SUBTREES: Meeting<'static> = Meeting {
 
 /// Tasks that meet nowhere, before the run begins.
 const SET_UP: Meeting<'static> = Meeting {
-    file: forking::FILE,
+    file: &[forking::FILE],
     entry: "e",
     state: "x = nil\n",
     ends: &["finished\nx = 1\nr.v = nil\n"],
@@ -165,15 +154,15 @@ fn may_come(
 }
 
 /// Under that gate the run, in which a task has so many tries, has an answer that may come of it.
-fn is_run_under<R: Threads + Wait + Sync + Abort>(
-    rt: &R,
-    alloc: Global,
+fn is_run_under(
+    rt: &impl Host,
     meeting: &Meeting,
     tries: &str,
     gate: &HostileGate,
 ) -> Result<(), Fail> {
+    let alloc = rt.alloc();
     let mut shelf = MemShelf::new(alloc);
-    shelf.add("p.sf", meeting.file.as_bytes())?;
+    shelf.add("p.sf", joined(alloc, meeting.file)?.as_bytes())?;
     shelf.add("state", meeting.state.as_bytes())?;
     let mut sink = MemSink::new(alloc, usize::MAX);
     let words = ["run", "p.sf", meeting.entry, "state", "--waits", tries];
@@ -186,15 +175,11 @@ fn is_run_under<R: Threads + Wait + Sync + Abort>(
 
 /// So it is under each kind of gate, where a task has one try, two, or a thousand; and gates that
 /// hold the first caller, or who came last, have held somebody.
-fn is_run<R: Threads + Wait + Sync + Abort>(
-    rt: &R,
-    alloc: Global,
-    meeting: &Meeting,
-) -> Result<(), Fail> {
+fn is_run(rt: &impl Host, meeting: &Meeting) -> Result<(), Fail> {
     for manner in MANNERS {
         for tries in ["1", "2", "1000"] {
             let gate = HostileGate::new(manner, TURNS);
-            is_run_under(rt, alloc, meeting, tries, &gate)?;
+            is_run_under(rt, meeting, tries, &gate)?;
             let always_holds = manner == Manner::First || manner == Manner::Latest;
             assert!(rt; gate.has_held() || !always_holds, "{manner:?}");
         }
@@ -204,46 +189,42 @@ fn is_run<R: Threads + Wait + Sync + Abort>(
 
 #[test]
 fn a_cell_is_handed_over_under_each_gate(rt: HostRuntime) -> Result<(), Fail> {
-    is_run(&rt, rt.alloc(), &HANDED_OVER)
+    is_run(&rt, &HANDED_OVER)
 }
 
 #[test]
 fn opposite_orders_end_or_use_up_tries(rt: HostRuntime) -> Result<(), Fail> {
-    is_run(&rt, rt.alloc(), &OPPOSITE)
+    is_run(&rt, &OPPOSITE)
 }
 
 #[test]
 fn one_of_four_writers_is_the_last(rt: HostRuntime) -> Result<(), Fail> {
-    is_run(&rt, rt.alloc(), &FOUR_WRITERS)
+    is_run(&rt, &FOUR_WRITERS)
 }
 
 #[test]
 fn what_is_pushed_is_popped_under_each_gate(rt: HostRuntime) -> Result<(), Fail> {
-    is_run(&rt, rt.alloc(), &STACKED)
+    is_run(&rt, &STACKED)
 }
 
 #[test]
 fn waits_that_never_end_use_up_their_tries(rt: HostRuntime) -> Result<(), Fail> {
-    is_run(&rt, rt.alloc(), &NEVER_FILLED)?;
-    is_run(&rt, rt.alloc(), &NEVER_TRUE)
+    is_run(&rt, &NEVER_FILLED)?;
+    is_run(&rt, &NEVER_TRUE)
 }
 
 #[test]
 fn gates_change_nothing_where_no_tasks_meet(rt: HostRuntime) -> Result<(), Fail> {
-    is_run(&rt, rt.alloc(), &SUBTREES)?;
-    is_run(&rt, rt.alloc(), &SET_UP)
+    is_run(&rt, &SUBTREES)?;
+    is_run(&rt, &SET_UP)
 }
 
 /// Under that gate the run's journal, where the run has ended, is a schedule in which `replay` finds
 /// nothing bad.
-fn is_replayed_from<R: Threads + Wait + Sync + Abort>(
-    rt: &R,
-    alloc: Global,
-    meeting: &Meeting,
-    gate: &HostileGate,
-) -> Result<(), Fail> {
+fn is_replayed_from(rt: &impl Host, meeting: &Meeting, gate: &HostileGate) -> Result<(), Fail> {
+    let alloc = rt.alloc();
     let mut shelf = MemShelf::new(alloc);
-    shelf.add("p.sf", meeting.file.as_bytes())?;
+    shelf.add("p.sf", joined(alloc, meeting.file)?.as_bytes())?;
     shelf.add("state", meeting.state.as_bytes())?;
     let mut sink = MemSink::new(alloc, usize::MAX);
     let words = [
@@ -258,7 +239,7 @@ fn is_replayed_from<R: Threads + Wait + Sync + Abort>(
     if status == 0 {
         shelf.add("schedule", sink.bytes())?;
         let words = ["replay", "p.sf", meeting.entry, "state", "schedule"];
-        says(rt, alloc, &words, &mut shelf, ("no such step\n", 0))?;
+        says(rt, &words, &mut shelf, ("no such step\n", 0))?;
     } else {
         assert_eq!(rt; status, 6);
     }
@@ -267,28 +248,24 @@ fn is_replayed_from<R: Threads + Wait + Sync + Abort>(
 
 #[test]
 fn what_a_journal_has_is_replayed_under_each_gate(rt: HostRuntime) -> Result<(), Fail> {
-    let alloc = rt.alloc();
     for meeting in [HANDED_OVER, FOUR_WRITERS, STACKED, SUBTREES, SET_UP] {
         for manner in MANNERS {
             let gate = HostileGate::new(manner, TURNS);
-            is_replayed_from(&rt, alloc, &meeting, &gate)?;
+            is_replayed_from(&rt, &meeting, &gate)?;
         }
     }
     Ok(())
 }
 
 /// Under that manner of gates `verify` says what it says with one worker.
-fn is_verified<R: Threads + Wait + Sync + Abort>(
-    rt: &R,
-    alloc: Global,
-    manner: Manner,
-) -> Result<(), Fail> {
+fn is_verified(rt: &impl Host, manner: Manner) -> Result<(), Fail> {
+    let alloc = rt.alloc();
     for workers in ["2", "4", "64"] {
         for (name, answer) in [("mm.sf", (mm::PROOF, 0)), ("late.sf", (late::FAILURE, 1))] {
             let gate = HostileGate::new(manner, TURNS);
             let mut shelf = shelf_with(alloc, "")?;
             let words = ["verify", name, "--workers", workers];
-            says_at(rt, alloc, &words, &mut shelf, answer, &gate)?;
+            says_at(rt, &words, &mut shelf, answer, &gate)?;
         }
     }
     Ok(())
@@ -297,7 +274,7 @@ fn is_verified<R: Threads + Wait + Sync + Abort>(
 #[test]
 fn gates_change_no_verdict(rt: HostRuntime) -> Result<(), Fail> {
     for manner in MANNERS {
-        is_verified(&rt, rt.alloc(), manner)?;
+        is_verified(&rt, manner)?;
     }
     Ok(())
 }
@@ -318,11 +295,8 @@ fn gate_at_buffer(alloc: Global) -> Result<TurnGate, Fail> {
 
 /// The run, in which a task has so many tries, has ended, or one of the two has used them up and has
 /// come to the buffer as often.
-fn is_run_with<R: Threads + Wait + Sync + Abort>(
-    rt: &R,
-    alloc: Global,
-    tries: u64,
-) -> Result<(), Fail> {
+fn is_run_with(rt: &impl Host, tries: u64) -> Result<(), Fail> {
+    let alloc = rt.alloc();
     let gate = gate_at_buffer(alloc)?;
     let mut shelf = shelf_with(alloc, HANDED_OVER.state)?;
     let mut sink = MemSink::new(alloc, usize::MAX);
@@ -347,7 +321,7 @@ fn is_run_with<R: Threads + Wait + Sync + Abort>(
 #[test]
 fn a_task_is_held_at_its_region_until_the_other_has_tried(rt: HostRuntime) -> Result<(), Fail> {
     for tries in [3, 4, 1_000_000] {
-        is_run_with(&rt, rt.alloc(), tries)?;
+        is_run_with(&rt, tries)?;
     }
     Ok(())
 }

@@ -3,37 +3,37 @@
 use super::answers::EMPTY;
 
 /// Files with which nothing is wrong, and what is said of them.
-pub const IN_ORDER: [(&[u8], &str); 29] = [
+pub const IN_ORDER: [(&str, &str); 29] = [
     (
-        b"f() [__ == nil] { }",
+        "f() [__ == nil] { }",
         "accepted\nprocedure f\nadd\nreturn\nend\n",
     ),
-    (b"f() { } /* \xc3\xa4 @ */", EMPTY),
+    ("f() { } /* \u{e4} @ */", EMPTY),
     (
-        b"f(x) { x->tl = -9223372036854775808; }",
+        "f(x) { x->tl = -9223372036854775808; }",
         "failed f at 1:8 NoCell\nvars x = s0\napart\natoms\ntaken\nwant cell s0\n",
     ),
     (
-        b"f(x) { x->tl = 9223372036854775807; }",
+        "f(x) { x->tl = 9223372036854775807; }",
         "failed f at 1:8 NoCell\nvars x = s0\napart\natoms\ntaken\nwant cell s0\n",
     ),
-    (b"f(;) { }", EMPTY),
-    (b"f(x;) { }", EMPTY),
-    (b"resource r () []", "accepted\n"),
+    ("f(;) { }", EMPTY),
+    ("f(x;) { }", EMPTY),
+    ("resource r () []", "accepted\n"),
     (
-        b"f(x) { dispose x; dispose(x); }",
+        "f(x) { dispose x; dispose(x); }",
         "failed f at 1:8 NoCell\nvars x = s0\napart\natoms\ntaken\nwant cell s0\n",
     ),
     (
-        b"f(x) { nil->tl = 3; 3->hd = nil; }",
+        "f(x) { nil->tl = 3; 3->hd = nil; }",
         "failed f at 1:8 NoCell\nvars x = s0\napart\natoms\ntaken\nwant cell nil\n",
     ),
     (
-        b"f(x) [if x == nil then emp else if (x != nil) then emp else emp * x == nil] { }",
+        "f(x) [if x == nil then emp else if (x != nil) then emp else emp * x == nil] { }",
         "accepted\nprocedure f\nsplit s0 nil\nthen\nreturn\nend\nelse\nthen\nreturn\nend\n",
     ),
     (
-        b"f(x) [if x == nil then x == _y else x|->tl:_y] { }",
+        "f(x) [if x == nil then x == _y else x|->tl:_y] { }",
         "failed f at 1:50 Leak
 vars x = s0
 apart s0 != nil
@@ -43,7 +43,7 @@ want emp
 ",
     ),
     (
-        b"f(x) [ls(_a,_b) * _b|->tl:_a * x|->tl:_b] { }",
+        "f(x) [ls(_a,_b) * _b|->tl:_a * x|->tl:_b] { }",
         "failed f at 1:45 Leak
 vars x = s0
 apart s0 != nil, s1 != nil
@@ -53,45 +53,45 @@ want emp
 ",
     ),
     (
-        b"f(x) [_a == _b * _b == x] { }",
+        "f(x) [_a == _b * _b == x] { }",
         "accepted\nprocedure f\nadd\nadd\nreturn\nend\n",
     ),
     (
-        b"f(x) [if x == nil then (if x == nil then _z == x * list(_z) else _z == nil) else emp] { }",
+        "f(x) [if x == nil then (if x == nil then _z == x * list(_z) else _z == nil) else emp] { }",
         "accepted; procedure f
 split s0 nil; then; then; add; add; drop 1; return; end; else; return; end
 ",
     ),
     (
-        b"resource r (v) [] f() { with r when (v == nil) { v = nil; } }",
+        "resource r (v) [] f() { with r when (v == nil) { v = nil; } }",
         "accepted\nprocedure f\nenter\nadd\nassign\nexit\ngive\nreturn\nend\n",
     ),
     (
-        b"resource r (v) [] resource s (w) [] f() { with r when (true) { with s when (v == w) { } } }",
+        "resource r (v) [] resource s (w) [] f() { with r when (true) { with s when (v == w) { } } }",
         "accepted\nprocedure f\nenter\nenter\nadd\nexit\ngive\nexit\ngive\nreturn\nend\n",
     ),
     (
-        b"resource r (v) [] f() { local v; v = nil; } [v == nil]",
+        "resource r (v) [] f() { local v; v = nil; } [v == nil]",
         "failed f at 1:43 NotEqual\nvars v = nil, r.v = s0\napart\natoms\ntaken\nwant s0 == nil\n",
     ),
     (
-        b"f(y) { } p(a;) { f(a) || f(a); }",
+        "f(y) { } p(a;) { f(a) || f(a); }",
         "accepted\nprocedure f\nreturn\nend\nprocedure p\nfork\ngive\nreturn\nend\n",
     ),
     (
-        b"resource r (v) [] g(y) { } p() [v == nil] { g(v) || g(v); }",
+        "resource r (v) [] g(y) { } p() [v == nil] { g(v) || g(v); }",
         "accepted\nprocedure g\nreturn\nend\nprocedure p\nadd\nfork\ngive\nreturn\nend\n",
     ),
     (
-        b"resource r (v) [] f() [v == nil] { v = nil; g(); } g() { } h() { with r when (true) { f(); } }",
+        "resource r (v) [] f() [v == nil] { v = nil; g(); } g() { } h() { with r when (true) { f(); } }",
         "failed h at 1:87 NotEqual\nvars r.v = s0\napart\natoms\ntaken\nwant s0 == nil\n",
     ),
     (
-        b"f(x) [_a == _a * _a == x] { }",
+        "f(x) [_a == _a * _a == x] { }",
         "accepted\nprocedure f\nadd\nadd\nreturn\nend\n",
     ),
     (
-        b"f(x) [_a != x * x|->tl:_a] { }",
+        "f(x) [_a != x * x|->tl:_a] { }",
         "failed f at 1:30 Leak
 vars x = s0
 apart s0 != nil, s1 != s0
@@ -101,23 +101,23 @@ want emp
 ",
     ),
     (
-        b"resource r (v) [] f(v;) { v = nil; }",
+        "resource r (v) [] f(v;) { v = nil; }",
         "accepted\nprocedure f\nassign\nreturn\nend\n",
     ),
     (
-        b"resource r (v) [] f(v;) [v == nil] { } g(x;) { f(x;); }",
+        "resource r (v) [] f(v;) [v == nil] { } g(x;) { f(x;); }",
         "failed g at 1:48 NotEqual\nvars x = s0\napart\natoms\ntaken\nwant s0 == nil\n",
     ),
     (
-        b"resource r (v) [] f() { local v; while (v != nil) [v == nil] { } }",
+        "resource r (v) [] f() { local v; while (v != nil) [v == nil] { } }",
         "accepted\nprocedure f\nloop\nsame\naround\nadd\nadd\nabsurd\nadd\nadd\nreturn\nend\n",
     ),
     (
-        b"f() { with r when (v == nil) { } } resource r (v) []",
+        "f() { with r when (v == nil) { } } resource r (v) []",
         "accepted\nprocedure f\nenter\nadd\nexit\ngive\nreturn\nend\n",
     ),
     (
-        b"a; tl; f(x) [list(x)] { }",
+        "a; tl; f(x) [list(x)] { }",
         "failed f at 1:25 Leak
 vars x = s0
 apart s0 != nil
@@ -126,9 +126,9 @@ taken
 want emp
 ",
     ),
-    (b"f; resource f (f) [] f(g;) { }", EMPTY),
+    ("f; resource f (f) [] f(g;) { }", EMPTY),
     (
-        b"f(x) [(if x == nil then _y == nil else emp) * (if x == nil then emp else _y == nil)] { }",
+        "f(x) [(if x == nil then _y == nil else emp) * (if x == nil then emp else _y == nil)] { }",
         "accepted; procedure f
 split s0 nil; then; add; then; return; end; else; else; add; return; end
 ",

@@ -1,7 +1,10 @@
 //! Files that are refused, with the kind and the place.
 
+use super::super::{Host, is_refused};
+use std::test::Fail;
+
 /// Files that are refused for their words, with the kind and the place.
-pub const BAD_WORDS: [(&[u8], &str); 11] = [
+const BAD_WORDS: [(&[u8], &str); 11] = [
     (
         b"x\n _a123456789012345678901234567890123456789012345678901234567890123;",
         "2 LongWord at 2:2",
@@ -31,7 +34,7 @@ pub const BAD_WORDS: [(&[u8], &str); 11] = [
 ];
 
 /// Files that are refused by the grammar.
-pub const BAD_GRAMMAR: [(&[u8], &str); 9] = [
+const BAD_GRAMMAR: [(&[u8], &str); 9] = [
     (b"f() { } ]", "10 Unexpected at 1:9"),
     (b"f(x)", "10 Unexpected at 1:5"),
     (b"f(nil) { }", "10 Unexpected at 1:3"),
@@ -44,7 +47,7 @@ pub const BAD_GRAMMAR: [(&[u8], &str); 9] = [
 ];
 
 /// Files that are refused for names, with the name.
-pub const BAD_NAMES: [(&[u8], &str); 46] = [
+const BAD_NAMES: [(&[u8], &str); 46] = [
     (b"f(x) { g(x); }", "20 UnknownName at 1:8 g"),
     (b"f(x,x) { }", "21 Twice at 1:5 x"),
     (b"f(x) { f(x;); }", "22 Arity at 1:8 f"),
@@ -133,7 +136,7 @@ pub const BAD_NAMES: [(&[u8], &str); 46] = [
 ];
 
 /// Files that break conditions on variables.
-pub const BROKEN_CONDITIONS: [(&[u8], &str); 24] = [
+const BROKEN_CONDITIONS: [(&[u8], &str); 24] = [
     (
         b"resource r (v) [] f() [tree(_x)] { v = nil; }",
         "30 NotHeld at 1:36 v",
@@ -237,7 +240,7 @@ d() { with r when (true) { c(); } }",
 ];
 
 /// Files with annotations that aren't determined.
-pub const UNDETERMINED: [(&[u8], &str); 13] = [
+const UNDETERMINED: [(&[u8], &str); 13] = [
     (b"resource r (v) [tree(_x)]", "40 Undetermined at 1:17"),
     (
         b"f(x) [(if x == nil then _y == nil else emp) * ls(x,_y)] { }",
@@ -282,3 +285,26 @@ pub const UNDETERMINED: [(&[u8], &str); 13] = [
         "40 Undetermined at 1:15",
     ),
 ];
+
+/// Each of the files is refused for what is beside it.
+fn are_refused(rt: &impl Host, cases: &[(&[u8], &str)]) -> Result<(), Fail> {
+    for (bytes, fault) in cases {
+        is_refused(rt, bytes, fault)?;
+    }
+    Ok(())
+}
+
+#[test]
+fn files_are_refused_at_their_first_fault(rt: HostRuntime) -> Result<(), Fail> {
+    let tables: [&[(&[u8], &str)]; 5] = [
+        &BAD_WORDS,
+        &BAD_GRAMMAR,
+        &BAD_NAMES,
+        &BROKEN_CONDITIONS,
+        &UNDETERMINED,
+    ];
+    for table in tables {
+        are_refused(&rt, table)?;
+    }
+    Ok(())
+}

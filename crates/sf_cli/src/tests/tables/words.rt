@@ -1,7 +1,11 @@
 //! Words of the command line.
 
+use super::super::files::set;
+use super::super::{are_no_commands, says, shelf_with};
+use std::test::Fail;
+
 /// Words that are no command.
-pub const NO_COMMANDS: [&[&str]; 28] = [
+const NO_COMMANDS: [&[&str]; 28] = [
     &[],
     &["verify"],
     &["verify", "a", "b"],
@@ -32,11 +36,26 @@ pub const NO_COMMANDS: [&[&str]; 28] = [
     &["journal", "a", "b", "c", "--workers", "1"],
 ];
 
+#[test]
+fn words_that_are_no_command_are_answered_with_the_usage(rt: HostRuntime) -> Result<(), Fail> {
+    are_no_commands(&rt, &NO_COMMANDS)
+}
+
 /// Words that have the file set.sf proved.
-pub const FORMS: [&[&str]; 5] = [
+const FORMS: [&[&str]; 5] = [
     &["verify", "set.sf"],
     &["verify", "set.sf", "--workers", "4"],
     &["verify", "--workers=64", "set.sf"],
     &["verify", "--", "set.sf"],
     &["verify", "--workers", "01", "--", "set.sf"],
 ];
+
+#[test]
+fn words_stand_in_any_order_that_the_usage_allows(rt: HostRuntime) -> Result<(), Fail> {
+    let alloc = rt.alloc();
+    let mut shelf = shelf_with(alloc, "")?;
+    for words in FORMS {
+        says(&rt, words, &mut shelf, (set::PROOF, 0))?;
+    }
+    Ok(())
+}
