@@ -6,9 +6,11 @@ use Rattle.std.specs.Option.{is_some, option_or}
 use Rattle.std.specs.Ordering.{nat_cmp, eq_by_cmp}
 use Rattle.std.proofs.lemmas.Bool.{false≢true}
 use Rattle.std.proofs.lemmas.List.{append-nil}
+use Rattle.std.specs.Global.{Box}
 use Rattle.sf_heap.specs.declared.tree.Entry.{Entry}
+use Rattle.sf_heap.specs.declared.tree.Node.{Node}
 use Rattle.sf_heap.specs.Checked.Entries.{found, map_of, AllAbove, AllBelow, Rises}
-use Rattle.sf_heap.specs.Checked.Trees.{IsMore, IsTaken}
+use Rattle.sf_heap.specs.Checked.Trees.{ComesBack, IsMore, IsTaken, Puts}
 use Rattle.sf_heap.proofs.Keys.{at-same, at-other}
 use Rattle.sf_heap.proofs.Entries.{found-above, found-below, found-one_more, Rises-less, Rises-more, map-more, map-less}
 use Rattle.sf_heap.proofs.Splits.{found-append}
@@ -175,3 +177,36 @@ taken-here below e above at same rises = record {
   };
   at_is = sym same;
 }
+
+-- an entry put into the side below, into the side above, or where the one between has its location
+pub puts-left : (below : List Entry) (e : Entry) (above : List Entry) (x : Entry) (back : Option (Box Node)) (new : List Entry)
+    → x.at < e.at → Rises (below ++ e ∷ above) → Puts below x back new → Puts (below ++ e ∷ above) x back (new ++ e ∷ above)
+puts-left below e above x None new h rises m = more-left below e above x new h (right-above below e above rises) m
+puts-left below e above x (Some b) new h rises k = record {
+  there = ap is_some (found-left below e above rises x.at h) ∙ k.there;
+  same = ap (λ es. es ++ e ∷ above) k.same;
+  is = k.is;
+}
+
+pub puts-right : (below : List Entry) (e : Entry) (above : List Entry) (x : Entry) (back : Option (Box Node)) (new : List Entry)
+    → e.at < x.at → Rises (below ++ e ∷ above) → Puts above x back new → Puts (below ++ e ∷ above) x back (below ++ e ∷ new)
+puts-right below e above x None new h rises m = more-right below e above x new h (left-below below e above rises) m
+puts-right below e above x (Some b) new h rises k = record {
+  there = ap is_some (found-right below e above rises x.at h) ∙ k.there;
+  same = ap (λ es. below ++ e ∷ es) k.same;
+  is = k.is;
+}
+
+pub comes_back : (below : List Entry) (e : Entry) (above : List Entry) (x : Entry) → x.at ≡ e.at
+    → Rises (below ++ e ∷ above) → ComesBack (below ++ e ∷ above) x x (below ++ e ∷ above)
+comes_back below e above x same rises = record {
+  there = ap is_some (found-here below e above rises x.at same);
+  same = refl;
+  is = refl;
+}
+
+-- where there is none at its location, an entry doesn't come back
+pub puts-absent : (old : List Entry) (x : Entry) (back : Option (Box Node)) (new : List Entry)
+    → found x.at old ≡ None → Puts old x back new → IsMore old x new
+puts-absent old x None new none m = m
+puts-absent old x (Some b) new none k = absurd (false≢true (sym (ap is_some none) ∙ k.there))

@@ -157,24 +157,34 @@ impl Heap {
         ensures present { IsPresent result ↔ HasCell self.old at }
         ensures cell_returned { IfErr result (λ fault. cell_in fault ≡ cell) }
     {
-        if self.get(at).is_some() {
-            return Err(HeapFault::Present(cell));
-        }
         let Some(count) = self.count.checked_add(1) else {
-            return Err(HeapFault::OutOfMemory(cell));
+            return Err(self.refused(at, cell));
         };
-        match Box::new(self.alloc, Node::new(Entry { at, cell })) {
-            Ok(node) => {
-                let hand = replace(&mut self.hand, Tree::Empty);
-                let cells = replace(&mut self.cells, Tree::Empty);
-                let mut cells = whole(hand, cells);
-                cells.put_in(node);
-                self.cells = cells;
-                self.count = count;
-                Ok(())
-            }
-            Err(AllocFailed { value: node }) => Err(HeapFault::OutOfMemory(node.entry.cell)),
+        let node = match Box::new(self.alloc, Node::new(Entry { at, cell })) {
+            Ok(node) => node,
+            Err(AllocFailed { value: node }) => return Err(self.refused(at, node.entry.cell)),
+        };
+        let hand = replace(&mut self.hand, Tree::Empty);
+        let cells = replace(&mut self.cells, Tree::Empty);
+        let mut cells = whole(hand, cells);
+        let (back, _) = cells.put_in(node);
+        self.cells = cells;
+        if let Some(node) = back {
+            return Err(HeapFault::Present(into_cell(node)));
         }
+        self.count = count;
+        Ok(())
+    }
+
+    /// Why there is no memory for a cell, unless its location has one. The cell comes back.
+    fn refused(&self, at: u64, cell: Cell) -> HeapFault
+        ensures present { IsPresent (Err result) ↔ HasCell self.now at }
+        ensures cell_returned { cell_in result ≡ cell }
+    {
+        if self.get(at).is_some() {
+            return HeapFault::Present(cell);
+        }
+        HeapFault::OutOfMemory(cell)
     }
 
     /// Whether no location has a cell of both.

@@ -18,7 +18,7 @@ pub(crate) fn whole(hand: Tree, mut cells: Tree) -> Tree
     ensures size { length (entries_of result) ≡ length (kept hand cells) }
 {
     if let Tree::Fork(_, node) = hand {
-        cells.put_in(node);
+        cells.add(node);
     }
     cells
 }
@@ -68,7 +68,7 @@ fn poured(from: Tree, into: Tree) -> Tree
     };
     let (below, node, above) = opened(node);
     let mut into = poured(below, into);
-    into.put_in(node);
+    into.add(node);
     poured(above, into)
 }
 
@@ -100,7 +100,7 @@ fn moved(mut part: Tree, mut rest: Tree, at: u64) -> (Tree, Tree)
 {
     let (taken, _) = rest.take_out(at);
     if let Some(node) = taken {
-        part.put_in(node);
+        part.add(node);
     }
     (part, rest)
 }

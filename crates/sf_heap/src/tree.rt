@@ -4,7 +4,7 @@ ghost use Rattle.std.specs.Prelude.{◌≡◌, ◌∷◌, ◌++◌, None, IfNone
 ghost use Rattle.std.specs.Option.{option_copied, option_copied_mut};
 ghost use Rattle.std.specs.Borrow.{sem};
 ghost use Rattle.sf_heap.specs.Checked.Entries.{Rises, cells_of, found, places};
-ghost use Rattle.sf_heap.specs.Checked.Trees.{entries_in, entries_of, tops, IsMore, IsTaken};
+ghost use Rattle.sf_heap.specs.Checked.Trees.{entries_in, entries_of, tops, IsMore, IsTaken, Puts};
 ghost use Rattle.sf_heap.specs.Checked.Lending.{LendsIts, LendsTop, top_of};
 
 use crate::cell::Cell;
@@ -141,24 +141,37 @@ impl Tree {
         }
     }
 
-    /// Puts one more cell in, at a location that has none. Whether the tree is higher now.
-    pub(crate) fn put_in(&mut self, new: Box<Node>) -> bool
+    /// Puts one more cell in, unless its location has one: then it comes back, and nothing is
+    /// changed. Beside it, whether the tree is higher now.
+    pub(crate) fn put_in(&mut self, new: Box<Node>) -> (Option<Box<Node>>, bool)
+        requires { Rises (entries_of self.old) }
+        ensures { Puts (entries_of self.old) new.value.entry result.0 (entries_of self.new) }
+    {
+        let Tree::Fork(height, mut node) = replace(self, Tree::Empty) else {
+            *self = fork(flat(new, Tree::Empty, Tree::Empty));
+            return (None, true);
+        };
+        if new.entry.at < node.entry.at {
+            let (back, is_higher) = node.below.put_in(new);
+            *self = Tree::Fork(height, node);
+            return (back, is_higher && self.mend());
+        }
+        if node.entry.at < new.entry.at {
+            let (back, is_higher) = node.above.put_in(new);
+            *self = Tree::Fork(height, node);
+            return (back, is_higher && self.mend());
+        }
+        *self = Tree::Fork(height, node);
+        (Some(new), false)
+    }
+
+    /// Puts one more cell in, at a location that has none.
+    pub(crate) fn add(&mut self, new: Box<Node>)
         requires rises { Rises (entries_of self.old) }
         requires absent { found new.value.entry.at (entries_of self.old) ≡ None }
         ensures { IsMore (entries_of self.old) new.value.entry (entries_of self.new) }
     {
-        let Tree::Fork(height, mut node) = replace(self, Tree::Empty) else {
-            *self = fork(flat(new, Tree::Empty, Tree::Empty));
-            return true;
-        };
-        if new.entry.at < node.entry.at {
-            let is_higher = node.below.put_in(new);
-            *self = Tree::Fork(height, node);
-            return is_higher && self.mend();
-        }
-        let is_higher = node.above.put_in(new);
-        *self = Tree::Fork(height, node);
-        is_higher && self.mend()
+        let _ = self.put_in(new);
     }
 
     /// Takes the cell at a location out, if there is one, and leaves the others. Beside it,

@@ -1,6 +1,7 @@
 -- The entries of a heap's tree, in order, and what one entry more or less makes of them.
 -- Ordinary: a binary search tree as the list of its keys, from the left to the right.
-use Rattle.std.specs.Prelude.{◌≡◌, ℕ, List, [], ◌∷◌, ◌++◌, None}
+use Rattle.std.specs.Prelude.{◌≡◌, ℕ, List, [], ◌∷◌, ◌++◌, Option, None, Some, IsTrue, is_some}
+use Rattle.std.specs.Global.{Box}
 use Rattle.sf_heap.specs.declared.tree.Entry.{Entry}
 use Rattle.sf_heap.specs.declared.tree.Node.{Node}
 use Rattle.sf_heap.specs.declared.tree.Tree.{Tree}
@@ -43,3 +44,14 @@ pub record IsMore (old : List Entry) (e : Entry) (new : List Entry) : Type 0 whe
 pub record IsTaken (old : List Entry) (at : ℕ) (e : Entry) (new : List Entry) : Type 0 where
   pub more : IsMore new e old
   pub at_is : e.at ≡ at
+
+-- an entry's location has one: nothing is changed, and it comes back
+pub record ComesBack (old : List Entry) (e back : Entry) (new : List Entry) : Type 0 where
+  pub there : IsTrue (is_some (found e.at old))
+  pub same : new ≡ old
+  pub is : back ≡ e
+
+-- an entry has its place, or it comes back
+abbrev pub Puts : List Entry → Entry → Option (Box Node) → List Entry → Type 0
+Puts old e None new = IsMore old e new
+Puts old e (Some back) new = ComesBack old e back.value.entry new

@@ -17,8 +17,8 @@ poured-into-requires t c =
     (search rules, (Rises-left _ _ _ rises, (c.requires.into_rises, poured-left _ _ _ _ rises apart)))
 
 -- then the node's own
-pub put_in-requires-clause-absent : goal.put_in-requires-clause-absent
-put_in-requires-clause-absent t c =
+pub add-requires-clause-absent : goal.add-requires-clause-absent
+add-requires-clause-absent t c =
     let is = ap entries_of c.in-Fork.is ∙ c.opened-below.ensures.entries in
     let rises = subst Rises is c.requires.from_rises in
     let apart = subst (AreApart (entries_of c.args.into)) is c.requires.apart in
@@ -36,8 +36,8 @@ poured-requires t c =
       (
         Rises-right _ _ _ rises,
         (
-          Rises-put _ _ _ c.put_in.ensures c.poured-into.ensures.rises,
-          poured-right _ _ _ _ rises apart _ c.poured-into.ensures _ c.put_in.ensures,
+          Rises-put _ _ _ c.add.ensures c.poured-into.ensures.rises,
+          poured-right _ _ _ _ rises apart _ c.poured-into.ensures _ c.add.ensures,
         ),
       ),
     )
@@ -47,4 +47,4 @@ returns t c =
     let is = ap entries_of c.in-Fork.is ∙ c.opened-below.ensures.entries in
     let rises = subst Rises is c.requires.from_rises in
     let apart = subst (AreApart (entries_of c.args.into)) is c.requires.apart in
-    rw is (poured-all _ _ _ _ rises apart _ c.poured-into.ensures _ c.put_in.ensures _ c.poured.ensures)
+    rw is (poured-all _ _ _ _ rises apart _ c.poured-into.ensures _ c.add.ensures _ c.poured.ensures)

@@ -7,8 +7,8 @@ use Rattle.sf_heap.proofs.moves.whole.Goals as goal
 -- the cell in hand goes to its place
 pub returns-in-Fork-clause-rises : goal.returns-in-Fork-clause-rises
 returns-in-Fork-clause-rises c =
-    Rises-put _ _ _ c.put_in.ensures (subst (λ h. AreKept h c.args.cells) c.in-Fork.is c.requires).0
+    Rises-put _ _ _ c.add.ensures (subst (λ h. AreKept h c.args.cells) c.in-Fork.is c.requires).0
 
 pub returns-in-Fork-clause-same : goal.returns-in-Fork-clause-same
 returns-in-Fork-clause-same c =
-    map-put _ _ _ c.put_in.ensures ∙ sym (ap (λ h. map_of (kept h c.args.cells)) c.in-Fork.is)
+    map-put _ _ _ c.add.ensures ∙ sym (ap (λ h. map_of (kept h c.args.cells)) c.in-Fork.is)
