@@ -79,6 +79,28 @@ impl Store {
         ensures heap { IfOk result (λ store. heap store ≡ heap self.now) }
     {
         let apart = self.apart.copy(alloc)?;
+        if !self.atoms.as_slice().is_empty() || !self.taken.is_empty() {
+            return self.copy_parts(alloc, apart);
+        }
+        Ok(Store {
+            apart,
+            atoms: Atoms::new(alloc),
+            taken: Vec::new(alloc),
+            next_atom: self.next_atom,
+            above: self.above,
+            index: Index::new(alloc),
+        })
+    }
+
+    /// The same of a store that has parts, with a copy of its pairs. It isn't inlined, so that a
+    /// store without parts is copied in a smaller frame.
+    #[inline(never)]
+    fn copy_parts(&self, alloc: Global, apart: Pairs) -> Result<Store, AllocError>
+        requires kept { Kept self.now }
+        requires apart { apart ≡ self.now.apart }
+        ensures kept { IfOk result (λ store. Kept store) }
+        ensures heap { IfOk result (λ store. heap store ≡ heap self.now) }
+    {
         let atoms = self.atoms.copy(alloc)?;
         let taken = copy_all(alloc, &self.taken)?;
         let same = Replacement {

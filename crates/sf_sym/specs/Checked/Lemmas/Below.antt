@@ -15,7 +15,7 @@ use Rattle.sf_sym.specs.declared.term.Term.TheVariants.{Nil, Int, Sym}
 use Rattle.sf_sym.specs.Below.{AllInAtom, AllInAtoms, AllInGoal, AllInItem, AllInPairs, AllInPending, AllInState, AllPaired, IsBelow, SameBelow}
 use Rattle.sf_sym.specs.Checked.Lemmas.Updates.{all-updated}
 use Rattle.sf_sym.specs.Fields.{put_term}
-use Rattle.sf_sym.specs.Goal.{Item, run, add, take, gave, head, again, exit, return, end, Goal}
+use Rattle.sf_sym.specs.Goal.{Item, add, take, gave, Goal}
 use Rattle.sf_sym.specs.Holds.{term_value}
 use Rattle.sf_sym.specs.Known.{forced_by}
 use Rattle.sf_sym.specs.Pending.{Pending}

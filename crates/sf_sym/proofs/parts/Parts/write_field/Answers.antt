@@ -1,6 +1,5 @@
-use Rattle.std.proofs.Common.{◌≡◌, ◌+◌, ◌∙◌, refl, None, get_or, slice_set, rules, sym, ap}
+use Rattle.std.proofs.Common.{◌∙◌, refl, slice_set, rules, ap}
 use Rattle.std.proofs.lemmas.List.{drop-set-add}
-use Rattle.sf_sym.specs.Cells.{fields_at}
 use Rattle.sf_sym.specs.declared.atom.Atom.TheVariants.{Points}
 use Rattle.sf_sym.specs.declared.atom.Numbered.{Numbered}
 use Rattle.sf_sym.proofs.Indices.{lent_at, lent_no_cell, none_is_no_cell, written_at}
