@@ -21,8 +21,9 @@ const FEW: usize = 16;
 /// Pairs of terms that differ. Contracts see them in the order in which they came.
 pub(crate) struct Pairs {
     list: Vec<(Term, Term)>,
-    /// The same pairs, each once, where there are more than a few.
-    set: Option<IndexSet<(Term, Term)>>,
+    /// The same pairs, each once, where there are more than a few. In a box, as a state is moved at
+    /// each step and most often has few.
+    set: Option<Box<IndexSet<(Term, Term)>>>,
     /// Whether one of them is of one term.
     reflexive: bool,
 }
@@ -48,7 +49,7 @@ impl Model for Pairs {
     ghost use Rattle.sf_sym.specs.Tests.{same_term};
     ghost use Rattle.sf_sym.specs.Checked.Sets.{AreSame};
 
-    ghost invariant = { λ s. IfSome s.set (λ set. AreSame s.list.items set.keys)
+    ghost invariant = { λ s. IfSome s.set (λ set. AreSame s.list.items set.value.keys)
         × (s.reflexive ≡ list_any (λ p. same_term p.0 p.1) s.list.items) };
 
     ghost view = { λ s. s.list.items };
@@ -78,7 +79,7 @@ impl Pairs {
         ensures { result ≡ list_any (is_pair t u) self.now }
     {
         match &self.set {
-            Some(set) => set.contains(&(t, u)) || set.contains(&(u, t)),
+            Some(set) => is_in(set, self.list.as_slice(), t, u),
             None => is_among(self.list.as_slice(), t, u),
         }
     }
@@ -144,7 +145,7 @@ impl Pairs {
         // With room for one more: where a goal is split, its copy gets a pair at once.
         let mut list = Vec::with_capacity(alloc, self.list.len().saturating_add(1))?;
         list.extend_from_slice(self.list.as_slice())?;
-        let set = copied(self.list.as_slice(), &self.set)?;
+        let set = copied(alloc, self.list.as_slice(), &self.set)?;
         Ok(Pairs {
             list,
             set,
@@ -160,6 +161,14 @@ fn is_among(pairs: &[(Term, Term)], t: Term, u: Term) -> bool
     pairs
         .iter()
         .any(|p| p.0.is(t) && p.1.is(u) || p.0.is(u) && p.1.is(t))
+}
+
+/// The same, by the set of the pairs of the list.
+fn is_in(set: &IndexSet<(Term, Term)>, list: &[(Term, Term)], t: Term, u: Term) -> bool
+    requires { AreSame list.now set.now.keys }
+    ensures { result ≡ list_any (is_pair t u) list.now }
+{
+    set.contains(&(t, u)) || set.contains(&(u, t))
 }
 
 /// The pairs of the list and one more, each once. An `Err` means out of memory.
@@ -180,38 +189,63 @@ fn set_of(
     Ok(set)
 }
 
+/// One pair more in the set of a list. An `Err` means out of memory, and then nothing changes.
+fn put(
+    set: &mut IndexSet<(Term, Term)>,
+    list: &[(Term, Term)],
+    pair: (Term, Term),
+) -> Result<(), AllocError>
+    requires { AreSame list.now set.old.keys }
+    ensures ok { OnOk result (AreSame (list.now ++ pair ∷ []) set.new.keys) }
+    ensures err { OnErr result (set.new.keys ≡ set.old.keys) }
+{
+    set.insert(pair)?;
+    Ok(())
+}
+
 /// The list is to have one pair more: so has its set, which is made once there are more than a few.
 /// An `Err` means out of memory, and then the set has the pairs that it had.
 fn note(
     alloc: Global,
-    set: &mut Option<IndexSet<(Term, Term)>>,
+    set: &mut Option<Box<IndexSet<(Term, Term)>>>,
     list: &[(Term, Term)],
     pair: (Term, Term),
 ) -> Result<(), AllocError>
-    requires { IfSome set.old (λ had. AreSame list.now had.keys) }
-    ensures ok { OnOk result (IfSome set.new (λ has. AreSame (list.now ++ pair ∷ []) has.keys)) }
-    ensures err { OnErr result (IfSome set.new (λ has. AreSame list.now has.keys)) }
+    requires { IfSome set.old (λ had. AreSame list.now had.value.keys) }
+    ensures ok { OnOk result (IfSome set.new (λ has. AreSame (list.now ++ pair ∷ []) has.value.keys)) }
+    ensures err { OnErr result (IfSome set.new (λ has. AreSame list.now has.value.keys)) }
 {
     match set {
         Some(set) => {
-            set.insert(pair)?;
+            put(set, list, pair)?;
         }
         None if list.len() < FEW => {}
-        None => *set = Some(set_of(alloc, list, pair)?),
+        None => *set = Some(Box::new(alloc, set_of(alloc, list, pair)?)?),
     }
     Ok(())
 }
 
+/// The same set. An `Err` means out of memory.
+fn cloned(
+    alloc: Global,
+    set: &IndexSet<(Term, Term)>,
+) -> Result<Box<IndexSet<(Term, Term)>>, AllocError>
+    ensures { IfOk result (λ made. made.value.keys ≡ set.now.keys) }
+{
+    Ok(Box::new(alloc, set.clone()?)?)
+}
+
 /// A copy of the set of a list. An `Err` means out of memory.
 fn copied(
+    alloc: Global,
     list: &[(Term, Term)],
-    set: &Option<IndexSet<(Term, Term)>>,
-) -> Result<Option<IndexSet<(Term, Term)>>, AllocError>
-    requires { IfSome set.now (λ it. AreSame list.now it.keys) }
-    ensures { IfOk result (λ made. IfSome made (λ it. AreSame list.now it.keys)) }
+    set: &Option<Box<IndexSet<(Term, Term)>>>,
+) -> Result<Option<Box<IndexSet<(Term, Term)>>>, AllocError>
+    requires { IfSome set.now (λ it. AreSame list.now it.value.keys) }
+    ensures { IfOk result (λ made. IfSome made (λ it. AreSame list.now it.value.keys)) }
 {
     match set {
-        Some(set) => Ok(Some(set.clone()?)),
+        Some(set) => Ok(Some(cloned(alloc, set)?)),
         None => Ok(None),
     }
 }

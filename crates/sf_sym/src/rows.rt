@@ -1,4 +1,4 @@
-//! Rows of atoms by terms, as a map from a term to the set of the rows there.
+//! Rows of atoms by terms.
 
 ghost use Rattle.std.specs.Prelude.{◌≡◌, [], IfOk, OnErr, OnOk};
 ghost use Rattle.sf_sym.specs.Checked.Keeping.{Enters, Leaves, MayEnter};
@@ -12,20 +12,23 @@ use indexmap::{IndexMap, IndexSet};
 use std::alloc::{AllocError, Global};
 use std::marker::Model;
 
-/// Rows by terms. Contracts see the terms with their rows.
+/// Rows by terms, which take no memory before the first one. Contracts see the terms with their rows.
 #[derive(Drop)]
 pub(crate) struct Rows {
-    table: IndexMap<Term, IndexSet<Row>>,
+    alloc: Global,
+    /// In a box: a state has two of these, is moved at each step, and most often has no rows.
+    table: Option<Box<Table>>,
 }
 
 impl Model for Rows {
-    ghost use Rattle.std.specs.Prelude.{List, map};
+    ghost use Rattle.std.specs.Prelude.{List, [], unwrap_or};
+    ghost use Rattle.std.specs.Option.{option_map};
     ghost use Rattle.sf_sym.specs.declared.outline.Row.{Row};
     ghost use Rattle.sf_sym.specs.declared.term.Term.{Term};
 
     ghost Value = { List (Term × List Row) };
 
-    ghost view = { λ s. map (λ e. (e.0, e.1.keys)) s.table.entries };
+    ghost view = { λ s. unwrap_or (option_map (λ b. b.value) s.table) [] };
 }
 
 impl Rows {
@@ -33,20 +36,76 @@ impl Rows {
     pub(crate) fn new(alloc: Global) -> Rows
         ensures { result ≡ [] }
     {
-        Rows {
-            table: IndexMap::new(alloc),
-        }
+        Rows { alloc, table: None }
     }
 
-    /// The rows at a term. Where there are none at all, no term is looked for: that is so for states
-    /// of which only the variables are known.
+    /// The rows at a term.
     pub(crate) fn at(&self, t: Term) -> &[Row]
         ensures { result.now ≡ rows_at self.now t }
     {
-        if self.table.is_empty() {
-            return &[];
+        match &self.table {
+            Some(table) => table.at(t),
+            None => &[],
         }
-        match self.table.get(&t) {
+    }
+
+    /// One more row at the terms where its atom begins. An `Err` means out of memory, and then it may
+    /// be at some of them.
+    pub(crate) fn enter(&mut self, row: Row) -> Result<(), AllocError>
+        ensures ok { OnOk result (Enters row self.old self.new) }
+        ensures err { OnErr result (MayEnter row self.old self.new) }
+    {
+        let mut table = match self.table.take() {
+            Some(table) => table,
+            None => Box::new(self.alloc, Table::new(self.alloc))?,
+        };
+        let entered = table.enter(row);
+        self.table = Some(table);
+        entered
+    }
+
+    /// One row less at the terms where its atom begins.
+    pub(crate) fn leave(&mut self, row: Row)
+        ensures { Leaves row self.old self.new }
+    {
+        if let Some(mut table) = self.table.take() {
+            table.leave(row);
+            self.table = Some(table);
+        }
+    }
+}
+
+/// Rows by terms, as a map from a term to the set of the rows there.
+#[derive(Drop)]
+struct Table {
+    by_term: IndexMap<Term, IndexSet<Row>>,
+}
+
+impl Model for Table {
+    ghost use Rattle.std.specs.Prelude.{List, map};
+    ghost use Rattle.sf_sym.specs.declared.outline.Row.{Row};
+    ghost use Rattle.sf_sym.specs.declared.term.Term.{Term};
+
+    ghost Value = { List (Term × List Row) };
+
+    ghost view = { λ s. map (λ e. (e.0, e.1.keys)) s.by_term.entries };
+}
+
+impl Table {
+    /// No rows.
+    fn new(alloc: Global) -> Table
+        ensures { result ≡ [] }
+    {
+        Table {
+            by_term: IndexMap::new(alloc),
+        }
+    }
+
+    /// The rows at a term.
+    fn at(&self, t: Term) -> &[Row]
+        ensures { result.now ≡ rows_at self.now t }
+    {
+        match self.by_term.get(&t) {
             Some(rows) => rows.as_slice(),
             None => &[],
         }
@@ -58,13 +117,13 @@ impl Rows {
         ensures ok { OnOk result (IsPut t row self.old self.new) }
         ensures err { OnErr result ((u : TermOf) → rows_at self.new u ≡ rows_at self.old u) }
     {
-        match self.table.get_mut(&t) {
+        match self.by_term.get_mut(&t) {
             Some(rows) => {
                 rows.insert(row)?;
             }
             None => {
-                let rows = one(*self.table.allocator(), row)?;
-                self.table.insert(t, rows)?;
+                let rows = one(*self.by_term.allocator(), row)?;
+                self.by_term.insert(t, rows)?;
             }
         }
         Ok(())
@@ -74,17 +133,17 @@ impl Rows {
     fn remove(&mut self, t: Term, row: Row)
         ensures { IsOut t row self.old self.new }
     {
-        if let Some(rows) = self.table.get_mut(&t) {
+        if let Some(rows) = self.by_term.get_mut(&t) {
             rows.swap_remove(&row);
             if rows.is_empty() {
-                self.table.swap_remove(&t);
+                self.by_term.swap_remove(&t);
             }
         }
     }
 
     /// One more row at the terms where its atom begins. An `Err` means out of memory, and then it may
     /// be at some of them.
-    pub(crate) fn enter(&mut self, row: Row) -> Result<(), AllocError>
+    fn enter(&mut self, row: Row) -> Result<(), AllocError>
         ensures ok { OnOk result (Enters row self.old self.new) }
         ensures err { OnErr result (MayEnter row self.old self.new) }
     {
@@ -98,7 +157,7 @@ impl Rows {
     }
 
     /// One row less at the terms where its atom begins.
-    pub(crate) fn leave(&mut self, row: Row)
+    fn leave(&mut self, row: Row)
         ensures { Leaves row self.old self.new }
     {
         let first = row.outline.root();

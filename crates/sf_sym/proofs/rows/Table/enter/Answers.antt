@@ -1,6 +1,6 @@
 use Rattle.sf_sym.proofs.Entering.{entered-at, entered-both_at, may-first}
 use Rattle.sf_sym.proofs.Indexed.{at-err}
-use Rattle.sf_sym.proofs.rows.Rows.enter.Goals as goal
+use Rattle.sf_sym.proofs.rows.Table.enter.Goals as goal
 
 pub returns-in_default-clause-ok : goal.returns-in_default-clause-ok
 returns-in_default-clause-ok c =

@@ -1,5 +1,5 @@
 use Rattle.sf_sym.proofs.Entering.{left-at, left-both_at}
-use Rattle.sf_sym.proofs.rows.Rows.leave.Goals as goal
+use Rattle.sf_sym.proofs.rows.Table.leave.Goals as goal
 
 pub returns-in_default : goal.returns-in_default
 returns-in_default c =
