@@ -34,3 +34,4 @@ pub mod KeptShapes
 pub mod KeptVariables
 pub mod BodyVariables
 pub mod GoalShapes
+pub mod Fronts

@@ -352,7 +352,7 @@ pub(crate) fn give<'a>(mut goal: Goal<'a>) -> Left<'a>
     ensures { IfOk result (λ left. option_map children_of left
         ≡ at_gave (give_row goal.entry.state) (todo_of goal.entry.todo.items)) }
 {
-    let Some((set, removed)) = take_gave(&mut goal.todo)? else {
+    let Some((set, removed)) = take_gave(&mut goal.todo) else {
         return Ok(None);
     };
     goal.state.set_vars(&set)?;

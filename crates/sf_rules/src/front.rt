@@ -92,126 +92,106 @@ pub(crate) fn take_command<'a>(todo: &mut Vec<Item<'a>>) -> Result<Option<&'a Co
     }
 }
 
-/// Takes the conjuncts to assume in front. `None` exactly where something else is, or nothing; an
-/// `Err` means out of memory.
-pub(crate) fn take_add<'a>(todo: &mut Vec<Item<'a>>) -> Result<Option<(Place, Pending)>, AllocError>
-    ensures some { IfOk result (λ r. IfSome r (λ x. todo_of todo.old.items
-        ≡ add x.0 (pending_of x.1) ∷ todo_of todo.new.items)) }
-    ensures none { IfOk result (λ r. IfNone r
+/// Takes the conjuncts to assume in front. `None` exactly where something else is, or nothing.
+#[tactic(auto, using(crate::proofs::Fronts::no_add_at_run))]
+pub(crate) fn take_add<'a>(todo: &mut Vec<Item<'a>>) -> Option<(Place, Pending)>
+    ensures some { IfSome result (λ x. todo_of todo.old.items
+        ≡ add x.0 (pending_of x.1) ∷ todo_of todo.new.items) }
+    ensures none { IfNone result
         ((row : PlaceOf → Conditions → List Thing → Option (List GoalOf))
-        → at_add row (todo_of todo.old.items) ≡ None)) }
+        → at_add row (todo_of todo.old.items) ≡ None) }
 {
-    let Some(front) = take_front(todo)? else {
-        return Ok(None);
-    };
-    match front {
-        Front::Add(place, given) => Ok(Some((place, given))),
-        Front::Command(_) | Front::Take(..) | Front::Gave(..) | Front::Head(..) => Ok(None),
-        Front::Again(..) | Front::Exit(..) | Front::Return(..) | Front::End(_) => Ok(None),
+    match next_item(todo)? {
+        Item::Add(place, given) => Some((place, given)),
+        Item::Run(_) => None,
+        Item::Take(..) | Item::Gave(..) | Item::Head(..) => None,
+        Item::Again(..) | Item::Exit(..) | Item::Return(..) | Item::End(_) => None,
     }
 }
 
-/// Takes the conjuncts to show in front. `None` exactly where something else is, or nothing; an
-/// `Err` means out of memory.
-pub(crate) fn take_take<'a>(
-    todo: &mut Vec<Item<'a>>,
-) -> Result<Option<(Place, Pending, &'a [Name])>, AllocError>
-    ensures some { IfOk result (λ r. IfSome r (λ x. todo_of todo.old.items
-        ≡ take x.0 (pending_of x.1) x.2.now ∷ todo_of todo.new.items)) }
-    ensures none { IfOk result (λ r. IfNone r
+/// Takes the conjuncts to show in front. `None` exactly where something else is, or nothing.
+#[tactic(auto, using(crate::proofs::Fronts::no_take_at_run))]
+pub(crate) fn take_take<'a>(todo: &mut Vec<Item<'a>>) -> Option<(Place, Pending, &'a [Name])>
+    ensures some { IfSome result (λ x. todo_of todo.old.items
+        ≡ take x.0 (pending_of x.1) x.2.now ∷ todo_of todo.new.items) }
+    ensures none { IfNone result
         ((row : PlaceOf → Conditions → List (List ℕ) → List Thing → Option (List GoalOf))
-        → at_take row (todo_of todo.old.items) ≡ None)) }
+        → at_take row (todo_of todo.old.items) ≡ None) }
 {
-    let Some(front) = take_front(todo)? else {
-        return Ok(None);
-    };
-    match front {
-        Front::Take(place, want, names) => Ok(Some((place, want, names))),
-        Front::Command(_) | Front::Add(..) | Front::Gave(..) | Front::Head(..) => Ok(None),
-        Front::Again(..) | Front::Exit(..) | Front::Return(..) | Front::End(_) => Ok(None),
+    match next_item(todo)? {
+        Item::Take(place, want, names) => Some((place, want, names)),
+        Item::Run(_) => None,
+        Item::Add(..) | Item::Gave(..) | Item::Head(..) => None,
+        Item::Again(..) | Item::Exit(..) | Item::Return(..) | Item::End(_) => None,
     }
 }
 
-/// Takes the end of a loop's body in front. `None` exactly where something else is, or nothing; an
-/// `Err` means out of memory.
-pub(crate) fn take_again<'a>(
-    todo: &mut Vec<Item<'a>>,
-) -> Result<Option<(Place, &'a Assertion)>, AllocError>
-    ensures some { IfOk result (λ r. IfSome r (λ x. todo_of todo.old.items
-        ≡ again x.0 (assertion_of x.1.now) ∷ todo_of todo.new.items)) }
-    ensures none { IfOk result (λ r. IfNone r
+/// Takes the end of a loop's body in front. `None` exactly where something else is, or nothing.
+#[tactic(auto, using(crate::proofs::Fronts::no_again_at_run))]
+pub(crate) fn take_again<'a>(todo: &mut Vec<Item<'a>>) -> Option<(Place, &'a Assertion)>
+    ensures some { IfSome result (λ x. todo_of todo.old.items
+        ≡ again x.0 (assertion_of x.1.now) ∷ todo_of todo.new.items) }
+    ensures none { IfNone result
         ((row : PlaceOf → AssertionOf → List Thing → Option (List GoalOf))
-        → at_again row (todo_of todo.old.items) ≡ None)) }
+        → at_again row (todo_of todo.old.items) ≡ None) }
 {
-    let Some(front) = take_front(todo)? else {
-        return Ok(None);
-    };
-    match front {
-        Front::Again(place, invariant) => Ok(Some((place, invariant))),
-        Front::Command(_) | Front::Add(..) | Front::Take(..) | Front::Gave(..) => Ok(None),
-        Front::Head(..) | Front::Exit(..) | Front::Return(..) | Front::End(_) => Ok(None),
+    match next_item(todo)? {
+        Item::Again(place, invariant) => Some((place, invariant)),
+        Item::Run(_) => None,
+        Item::Add(..) | Item::Take(..) | Item::Gave(..) => None,
+        Item::Head(..) | Item::Exit(..) | Item::Return(..) | Item::End(_) => None,
     }
 }
 
-/// Takes the end of a region in front. `None` exactly where something else is, or nothing; an `Err`
-/// means out of memory.
-pub(crate) fn take_exit<'a>(todo: &mut Vec<Item<'a>>) -> Result<Option<(Place, ResId)>, AllocError>
-    ensures some { IfOk result (λ r. IfSome r (λ x. todo_of todo.old.items
-        ≡ exit x.0 x.1 ∷ todo_of todo.new.items)) }
-    ensures none { IfOk result (λ r. IfNone r
+/// Takes the end of a region in front. `None` exactly where something else is, or nothing.
+#[tactic(auto, using(crate::proofs::Fronts::no_exit_at_run))]
+pub(crate) fn take_exit<'a>(todo: &mut Vec<Item<'a>>) -> Option<(Place, ResId)>
+    ensures some { IfSome result (λ x. todo_of todo.old.items
+        ≡ exit x.0 x.1 ∷ todo_of todo.new.items) }
+    ensures none { IfNone result
         ((row : PlaceOf → ResourceNumber → List Thing → Option (List GoalOf))
-        → at_exit row (todo_of todo.old.items) ≡ None)) }
+        → at_exit row (todo_of todo.old.items) ≡ None) }
 {
-    let Some(front) = take_front(todo)? else {
-        return Ok(None);
-    };
-    match front {
-        Front::Exit(place, r) => Ok(Some((place, r))),
-        Front::Command(_) | Front::Add(..) | Front::Take(..) | Front::Gave(..) => Ok(None),
-        Front::Head(..) | Front::Again(..) | Front::Return(..) | Front::End(_) => Ok(None),
+    match next_item(todo)? {
+        Item::Exit(place, r) => Some((place, r)),
+        Item::Run(_) => None,
+        Item::Add(..) | Item::Take(..) | Item::Gave(..) => None,
+        Item::Head(..) | Item::Again(..) | Item::Return(..) | Item::End(_) => None,
     }
 }
 
-/// Takes the end of the procedure in front. `None` exactly where something else is, or nothing; an
-/// `Err` means out of memory.
-pub(crate) fn take_return<'a>(
-    todo: &mut Vec<Item<'a>>,
-) -> Result<Option<(Place, &'a [Ordered])>, AllocError>
-    ensures some { IfOk result (λ r. IfSome r (λ x. todo_of todo.old.items
-        ≡ return x.0 (map (λ o. assertion_of o.assertion) x.1.now) ∷ todo_of todo.new.items)) }
-    ensures none { IfOk result (λ r. IfNone r
+/// Takes the end of the procedure in front. `None` exactly where something else is, or nothing.
+#[tactic(auto, using(crate::proofs::Fronts::no_return_at_run))]
+pub(crate) fn take_return<'a>(todo: &mut Vec<Item<'a>>) -> Option<(Place, &'a [Ordered])>
+    ensures some { IfSome result (λ x. todo_of todo.old.items
+        ≡ return x.0 (map (λ o. assertion_of o.assertion) x.1.now) ∷ todo_of todo.new.items) }
+    ensures none { IfNone result
         ((row : PlaceOf → List AssertionOf → List Thing → Option (List GoalOf))
-        → at_return row (todo_of todo.old.items) ≡ None)) }
+        → at_return row (todo_of todo.old.items) ≡ None) }
 {
-    let Some(front) = take_front(todo)? else {
-        return Ok(None);
-    };
-    match front {
-        Front::Return(place, owed) => Ok(Some((place, owed))),
-        Front::Command(_) | Front::Add(..) | Front::Take(..) | Front::Gave(..) => Ok(None),
-        Front::Head(..) | Front::Again(..) | Front::Exit(..) | Front::End(_) => Ok(None),
+    match next_item(todo)? {
+        Item::Return(place, owed) => Some((place, owed)),
+        Item::Run(_) => None,
+        Item::Add(..) | Item::Take(..) | Item::Gave(..) => None,
+        Item::Head(..) | Item::Again(..) | Item::Exit(..) | Item::End(_) => None,
     }
 }
 
 /// Takes what is said in front of what was taken: the variables that are set, and those that are
-/// removed. `None` exactly where something else is in front, or nothing; an `Err`
-/// means out of memory.
-pub(crate) fn take_gave<'a>(
-    todo: &mut Vec<Item<'a>>,
-) -> Result<Option<(Vec<(Var, Term)>, Vec<Var>)>, AllocError>
-    ensures some { IfOk result (λ r. IfSome r (λ x. (p : PlaceOf)
-        × (todo_of todo.old.items ≡ gave p x.0.items x.1.items ∷ todo_of todo.new.items))) }
-    ensures none { IfOk result (λ r. IfNone r
+/// removed. `None` exactly where something else is in front, or nothing.
+#[tactic(auto, using(crate::proofs::Fronts::no_gave_at_run))]
+pub(crate) fn take_gave<'a>(todo: &mut Vec<Item<'a>>) -> Option<(Vec<(Var, Term)>, Vec<Var>)>
+    ensures some { IfSome result (λ x. (p : PlaceOf)
+        × (todo_of todo.old.items ≡ gave p x.0.items x.1.items ∷ todo_of todo.new.items)) }
+    ensures none { IfNone result
         ((row : PlaceOf → List (Variable × TermOf) → List Variable → List Thing
-        → Option (List GoalOf)) → at_gave row (todo_of todo.old.items) ≡ None)) }
+        → Option (List GoalOf)) → at_gave row (todo_of todo.old.items) ≡ None) }
 {
-    let Some(front) = take_front(todo)? else {
-        return Ok(None);
-    };
-    match front {
-        Front::Gave(_, set, removed) => Ok(Some((set, removed))),
-        Front::Command(_) | Front::Add(..) | Front::Take(..) | Front::Head(..) => Ok(None),
-        Front::Again(..) | Front::Exit(..) | Front::Return(..) | Front::End(_) => Ok(None),
+    match next_item(todo)? {
+        Item::Gave(_, set, removed) => Some((set, removed)),
+        Item::Run(_) => None,
+        Item::Add(..) | Item::Take(..) | Item::Head(..) => None,
+        Item::Again(..) | Item::Exit(..) | Item::Return(..) | Item::End(_) => None,
     }
 }
 
@@ -229,44 +209,45 @@ pub(crate) struct Loop<'a> {
 }
 
 /// Takes the loop in front whose invariant was handed over. `None` exactly where something else is,
-/// or nothing; an `Err` means out of memory.
-pub(crate) fn take_head<'a>(todo: &mut Vec<Item<'a>>) -> Result<Option<Loop<'a>>, AllocError>
-    ensures some { IfOk result (λ r. IfSome r (λ x. todo_of todo.old.items
+/// or nothing.
+#[tactic(auto, using(crate::proofs::Fronts::no_head_at_run))]
+pub(crate) fn take_head<'a>(todo: &mut Vec<Item<'a>>) -> Option<Loop<'a>>
+    ensures some { IfSome result (λ x. todo_of todo.old.items
         ≡ head x.place x.test.now (assertion_of x.invariant.now) (block_of x.body.now)
-        ∷ todo_of todo.new.items)) }
-    ensures none { IfOk result (λ r. IfNone r
+        ∷ todo_of todo.new.items) }
+    ensures none { IfNone result
         ((row : PlaceOf → TestOf ExprOf → AssertionOf → Block → List Thing → Option (List GoalOf))
-        → at_head row (todo_of todo.old.items) ≡ None)) }
+        → at_head row (todo_of todo.old.items) ≡ None) }
 {
-    let Some(front) = take_front(todo)? else {
-        return Ok(None);
-    };
-    match front {
-        Front::Head(place, test, invariant, body) => Ok(Some(Loop {
+    match next_item(todo)? {
+        Item::Head(place, test, invariant, body) => Some(Loop {
             place,
             test,
             invariant,
             body,
-        })),
-        Front::Command(_) | Front::Add(..) | Front::Take(..) | Front::Gave(..) => Ok(None),
-        Front::Again(..) | Front::Exit(..) | Front::Return(..) | Front::End(_) => Ok(None),
+        }),
+        Item::Run(_) => None,
+        Item::Add(..) | Item::Take(..) | Item::Gave(..) => None,
+        Item::Again(..) | Item::Exit(..) | Item::Return(..) | Item::End(_) => None,
     }
 }
 
 /// Takes the end of all, if it is in front: whether it was. `false` exactly where something else is
-/// in front, or nothing; an `Err` means out of memory.
-pub(crate) fn take_end(todo: &mut Vec<Item<'_>>) -> Result<bool, AllocError>
-    ensures some { IfOk result (λ b. b ≡ true
-        → (p : PlaceOf) × (todo_of todo.old.items ≡ end p ∷ todo_of todo.new.items)) }
-    ensures none { IfOk result (λ b. b ≡ false → (row : PlaceOf → List Thing → Option (List GoalOf))
-        → at_end row (todo_of todo.old.items) ≡ None) }
+/// in front, or nothing.
+#[tactic(auto, using(crate::proofs::Fronts::no_end_at_run))]
+pub(crate) fn take_end(todo: &mut Vec<Item<'_>>) -> bool
+    ensures some { result ≡ true
+        → (p : PlaceOf) × (todo_of todo.old.items ≡ end p ∷ todo_of todo.new.items) }
+    ensures none { result ≡ false → (row : PlaceOf → List Thing → Option (List GoalOf))
+        → at_end row (todo_of todo.old.items) ≡ None }
 {
-    let Some(front) = take_front(todo)? else {
-        return Ok(false);
+    let Some(item) = next_item(todo) else {
+        return false;
     };
-    match front {
-        Front::End(_) => Ok(true),
-        Front::Command(_) | Front::Add(..) | Front::Take(..) | Front::Gave(..) => Ok(false),
-        Front::Head(..) | Front::Again(..) | Front::Exit(..) | Front::Return(..) => Ok(false),
+    match item {
+        Item::End(_) => true,
+        Item::Run(_) => false,
+        Item::Add(..) | Item::Take(..) | Item::Gave(..) => false,
+        Item::Head(..) | Item::Again(..) | Item::Exit(..) | Item::Return(..) => false,
     }
 }

@@ -90,7 +90,7 @@ pub(crate) fn around<'a>(
         ≡ at_head (around_row d goal.entry.state) (todo_of goal.entry.todo.items)) }
 {
     let Goal { state, mut todo } = goal;
-    let Some(l) = take_head(&mut todo)? else {
+    let Some(l) = take_head(&mut todo) else {
         return Ok(None);
     };
     let Some(state) = with_unknown(alloc, calls, state, l.body)? else {
@@ -257,7 +257,7 @@ pub(crate) fn again<'a>(alloc: Global, goal: Goal<'a>) -> Result<Option<Children
         ≡ at_again (again_row d goal.entry.state) (todo_of goal.entry.todo.items)) }
 {
     let Goal { state, mut todo } = goal;
-    let Some((place, invariant)) = take_again(&mut todo)? else {
+    let Some((place, invariant)) = take_again(&mut todo) else {
         return Ok(None);
     };
     let todo = only_end(alloc, place)?;
@@ -276,7 +276,7 @@ pub(crate) fn return_from<'a>(
         ≡ at_return (return_row goal.entry.state) (todo_of goal.entry.todo.items)) }
 {
     let Goal { state, mut todo } = goal;
-    let Some((place, owed)) = take_return(&mut todo)? else {
+    let Some((place, owed)) = take_return(&mut todo) else {
         return Ok(None);
     };
     let todo = only_end(alloc, place)?;
@@ -300,7 +300,7 @@ pub(crate) fn end<'a>(goal: Goal<'a>) -> Result<Option<Children<'a>>, AllocError
         ≡ at_end (end_row goal.entry.state) (todo_of goal.entry.todo.items)) }
 {
     let Goal { state, mut todo } = goal;
-    if take_end(&mut todo)? && state.atoms().is_empty() {
+    if take_end(&mut todo) && state.atoms().is_empty() {
         Ok(Some(Children::None))
     } else {
         Ok(None)

@@ -156,7 +156,7 @@ pub(crate) fn exit<'a>(alloc: Global, arranged: &'a Arranged, goal: Goal<'a>) ->
         ≡ at_exit (exit_row d goal.entry.state) (todo_of goal.entry.todo.items)) }
 {
     let Goal { state, mut todo } = goal;
-    let Some((place, r)) = take_exit(&mut todo)? else {
+    let Some((place, r)) = take_exit(&mut todo) else {
         return Ok(None);
     };
     let Some(region) = region_of(arranged, r) else {

@@ -30,7 +30,7 @@ pub(crate) fn assume<'a>(alloc: Global, goal: Goal<'a>) -> Result<Option<Childre
         ≡ at_add (assume_row goal.entry.state) (todo_of goal.entry.todo.items)) }
 {
     let Goal { state, mut todo } = goal;
-    let Some((place, given)) = take_add(&mut todo)? else {
+    let Some((place, given)) = take_add(&mut todo) else {
         return Ok(None);
     };
     if operands(&given) >= TOO_MANY {
@@ -57,7 +57,7 @@ pub(crate) fn show<'a>(
         mut state,
         mut todo,
     } = goal;
-    let Some((place, mut want, names)) = take_take(&mut todo)? else {
+    let Some((place, mut want, names)) = take_take(&mut todo) else {
         return Ok(None);
     };
     if new_symbols(&want) >= TOO_MANY {
